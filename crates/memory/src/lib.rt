@@ -1,0 +1,5 @@
+pub mod access;
+pub mod call;
+pub mod fault;
+pub mod memory;
+pub mod write;
