@@ -1,0 +1,3 @@
+pub mod Faults
+pub mod Door
+pub mod Doors

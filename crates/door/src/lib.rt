@@ -1,0 +1,4 @@
+pub mod call;
+pub mod door;
+pub mod fault;
+pub mod request;

@@ -1,0 +1,4 @@
+pub mod Faults
+pub mod Lock
+pub mod Locks
+pub mod Lines

@@ -1,0 +1,5 @@
+pub mod fault;
+pub mod lock;
+pub mod sizes;
+pub mod table;
+pub mod values;

@@ -1,0 +1,4 @@
+pub mod answer;
+pub mod layout;
+pub mod rows;
+pub mod stage;
