@@ -61,7 +61,7 @@ impl Style {
         Style {
             sticks: random.pick(&[0, 30, 60, 80, 90, 95]),
             reads: random.pick(&[0, 20, 50, 80, 95, 100]),
-            lingers: random.pick(&[0, 30, 70]),
+            lingers: random.pick(&[0, 30, 70, 90, 98]),
             aborts: random.pick(&[0, 1, 5, 15]),
             resends: random.pick(&[0, 2, 10]),
             wrongs: random.pick(&[0, 1, 5, 20]),
@@ -85,6 +85,10 @@ impl Drawer {
     pub fn call<M: Memory>(&mut self, door: &Door<M>) -> Call {
         let cards = door.lock().sizes().cards();
         if self.card >= cards || !self.random.chance(self.style.sticks) {
+            self.card = self.random.below(cards);
+        }
+        // A waiting card is asked now and then, so that the run gets on.
+        if door.lock().cards()[self.card].stage.waits() && self.random.chance(70) {
             self.card = self.random.below(cards);
         }
         let card = self.card;
