@@ -1,0 +1,4 @@
+pub mod Isolation
+pub mod Kept
+pub mod Seeks
+pub mod Soundness
