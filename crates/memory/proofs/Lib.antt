@@ -1,4 +1,6 @@
+pub mod Examples
 pub mod Isolation
 pub mod Kept
+pub mod Rooms
 pub mod Seeks
 pub mod Soundness

@@ -20,7 +20,8 @@ use Rattle.memory.specs.Meaning.{wrote, marked, marking, recording, replaced, 
 use Rattle.memory.specs.Calls.{performed, after-calls}
 use Rattle.memory.specs.Isolation.{Apart, once, Few, Orderly, Sound, Always-sound}
 use Rattle.memory.proofs.Kept.{Kept, kept-call, kept-calls}
-use Rattle.memory.proofs.Isolation.{apart-call, apart-kept, set-at, served-other, has-more, wrote-replaced, clear-none, clash}
+use Rattle.memory.proofs.Isolation.{apart-call, apart-kept, set-at, served-other}
+use Rattle.memory.proofs.Isolation.{has-more, wrote-replaced, clear-none, clash}
 
 -- Lengths.
 abbrev pub Cells-137 : Meaning → Type 0
@@ -43,10 +44,13 @@ cells-kept = record {
   at-store = λ m cell value e. length-set (m .cells) cell value ∙ e;
   at-own-read = λ m card cell ms ws b h t e. e;
   at-read = λ m card cell ms ns ws b h t q e. e;
-  at-write = λ m card cell value ms ws vs b h t q e. e }
+  at-write = λ m card cell value ms ws vs b h t q e. e;
+}
 
-length-served : (a : Access) (card cell : ℕ) (own : Tx) (m : Meaning) → length (served a card cell own m .txs) ≡ length (m .txs)
-length-served a card cell own m = length-set (map (struck a cell) (m .txs)) card own ∙ length-map (m .txs) (struck a cell)
+length-served : (a : Access) (card cell : ℕ) (own : Tx) (m : Meaning)
+    → length (served a card cell own m .txs) ≡ length (m .txs)
+length-served a card cell own m =
+    length-set (map (struck a cell) (m .txs)) card own ∙ length-map (m .txs) (struck a cell)
 
 cards-kept : Kept Cards-8
 cards-kept = record {
@@ -58,7 +62,8 @@ cards-kept = record {
   at-store = λ m cell value e. e;
   at-own-read = λ m card cell ms ws b h t e. length-served Reads card cell (live ms ws) m ∙ e;
   at-read = λ m card cell ms ns ws b h t q e. length-served Reads card cell (live ns ws) m ∙ e;
-  at-write = λ m card cell value ms ws vs b h t q e. length-served Writes card cell (live ms vs) m ∙ e }
+  at-write = λ m card cell value ms ws vs b h t q e. length-served Writes card cell (live ms vs) m ∙ e;
+}
 
 -- a memory keeps its 137 cells over a call
 pub cells-call : (m : Meaning) (c : MemoryCall) → Cells-137 m → Cells-137 (performed m c .after)
@@ -71,25 +76,27 @@ cards-call m c e = kept-call Cards-8 cards-kept m e c
 -- Few records stay few.
 -- a record of a cell that the others lack
 once-more : {X : Type 0} (f : X → ℕ) (xs : List X) (y : X) → once f xs ≡ true → has f xs (f y) ≡ false
-  → once f (xs ++ y ∷ []) ≡ true
+    → once f (xs ++ y ∷ []) ≡ true
 once-more f [] y o l = refl
 once-more f (x ∷ xs) y o l = go (has f xs (f x)) (eqb (f x) (f y)) refl refl o l (once-more f xs y) where
   go : (b e : Bool) → has f xs (f x) ≡ b → eqb (f x) (f y) ≡ e → cond b false (once f xs) ≡ true
-    → cond e true (has f xs (f y)) ≡ false → (once f xs ≡ true → has f xs (f y) ≡ false → once f (xs ++ y ∷ []) ≡ true)
-    → cond (has f (xs ++ y ∷ []) (f x)) false (once f (xs ++ y ∷ [])) ≡ true
+      → cond e true (has f xs (f y)) ≡ false
+      → (once f xs ≡ true → has f xs (f y) ≡ false → once f (xs ++ y ∷ []) ≡ true)
+      → cond (has f (xs ++ y ∷ []) (f x)) false (once f (xs ++ y ∷ [])) ≡ true
   go true e p q r s k = clash false r refl
   go false true p q r s k = clash true refl s
   go false false p q r s k = cond-false _ _ _ (has-more f xs y (f x) (eqb-false (f x) (f y) q) ∙ p) ∙ k r s
 
 few-more : {X : Type 0} (f : X → ℕ) (xs : List X) (y : X) → Few f xs → length xs < 4 → has f xs (f y) ≡ false
-  → f y < 137 → Few f (xs ++ y ∷ [])
+    → f y < 137 → Few f (xs ++ y ∷ [])
 few-more f xs y F h l b = record {
   four = rw (length-append xs (y ∷ [])) (omega arith);
   single = once-more f xs y (F .single) l;
   within = λ x w. ⊎-elim
-    (λ (e : x ≡ f y). subst (λ n. n < 137) (sym e) b)
-    (λ (n : x ≡ f y → ⊥). F .within x (sym (has-more f xs y x n) ∙ w))
-    (cases-eq x (f y)) }
+      (λ (e : x ≡ f y). subst (λ n. n < 137) (sym e) b)
+      (λ (n : x ≡ f y → ⊥). F .within x (sym (has-more f xs y x n) ∙ w))
+      (cases-eq x (f y));
+}
 
 few-none : {X : Type 0} (f : X → ℕ) → Few f []
 few-none f = record { four = omega arith; single = refl; within = λ x w. clash false w refl }
@@ -97,11 +104,11 @@ few-none f = record { four = omega arith; single = refl; within = λ x w. clash 
 few-marking : (ms ns : List ℕ) (cell : ℕ) → Few (λ k. k) ms → cell < 137 → marking ms cell ≡ Some ns → Few (λ k. k) ns
 few-marking ms ns cell F h e = go (marked ms cell) (ltb (length ms) 4) refl refl e where
   go : (b l : Bool) → marked ms cell ≡ b → ltb (length ms) 4 ≡ l
-    → cond b (Some ms) (cond l (Some (ms ++ cell ∷ [])) None) ≡ Some ns → Few (λ k. k) ns
+      → cond b (Some ms) (cond l (Some (ms ++ cell ∷ [])) None) ≡ Some ns → Few (λ k. k) ns
   go true l p r q = let z : ms ≡ ns = cc in subst (Few (λ k. k)) z F
   go false true p r q =
-    let z : ms ++ cell ∷ [] ≡ ns = cc in
-    subst (Few (λ k. k)) z (few-more (λ k. k) ms cell F (ltb-true (length ms) 4 r) p h)
+      let z : ms ++ cell ∷ [] ≡ ns = cc in
+      subst (Few (λ k. k)) z (few-more (λ k. k) ms cell F (ltb-true (length ms) 4 r) p h)
   go false false p r q = let z : _≡_ {A = ℕ} 0 1 = cc in absurd (omega arith)
 
 abbrev place : Write → ℕ
@@ -111,7 +118,7 @@ length-replaced : (ws : List Write) (cell value : ℕ) → length (replaced ws c
 length-replaced [] cell value = refl
 length-replaced (w ∷ ws) cell value = go (eqb (w .cell) cell) (length-replaced ws cell value) where
   go : (b : Bool) → length (replaced ws cell value) ≡ length ws
-    → length (cond b (record { cell = cell; value = value } ∷ ws) (w ∷ replaced ws cell value)) ≡ length (w ∷ ws)
+      → length (cond b (record { cell = cell; value = value } ∷ ws) (w ∷ replaced ws cell value)) ≡ length (w ∷ ws)
   go true r = refl
   go false r = ap suc r
 
@@ -119,28 +126,30 @@ once-replaced : (ws : List Write) (cell value : ℕ) → once place (replaced ws
 once-replaced [] cell value = refl
 once-replaced (w ∷ ws) cell value = go (eqb (w .cell) cell) refl (once-replaced ws cell value) where
   go : (b : Bool) → eqb (w .cell) cell ≡ b → once place (replaced ws cell value) ≡ once place ws
-    → once place (cond b (record { cell = cell; value = value } ∷ ws) (w ∷ replaced ws cell value)) ≡ once place (w ∷ ws)
+      → once place (cond b (record { cell = cell; value = value } ∷ ws) (w ∷ replaced ws cell value))
+      ≡ once place (w ∷ ws)
   go true q r = ap (λ k. cond (has place ws k) false (once place ws)) (sym (eqb-true (w .cell) cell q))
   go false q r =
-    ap (λ b. cond b false (once place (replaced ws cell value))) (wrote-replaced ws cell value (w .cell))
-    ∙ ap (cond (has place ws (w .cell)) false) r
+      ap (λ b. cond b false (once place (replaced ws cell value))) (wrote-replaced ws cell value (w .cell))
+      ∙ ap (cond (has place ws (w .cell)) false) r
 
 few-recording : (ws vs : List Write) (cell value : ℕ) → Few place ws → cell < 137 → recording ws cell value ≡ Some vs
-  → Few place vs
+    → Few place vs
 few-recording ws vs cell value F h e = go (wrote ws cell) (ltb (length ws) 4) refl refl e where
   go : (b l : Bool) → wrote ws cell ≡ b → ltb (length ws) 4 ≡ l
-    → cond b (Some (replaced ws cell value)) (cond l (Some (ws ++ record { cell = cell; value = value } ∷ [])) None)
+      → cond b (Some (replaced ws cell value)) (cond l (Some (ws ++ record { cell = cell; value = value } ∷ [])) None)
       ≡ Some vs
-    → Few place vs
+      → Few place vs
   go true l p r q =
-    let z : replaced ws cell value ≡ vs = cc in
-    subst (Few place) z (record {
-      four = rw (length-replaced ws cell value) (F .four);
-      single = once-replaced ws cell value ∙ F .single;
-      within = λ x w. F .within x (sym (wrote-replaced ws cell value x) ∙ w) })
+      let z : replaced ws cell value ≡ vs = cc in
+      subst (Few place) z (record {
+        four = rw (length-replaced ws cell value) (F .four);
+        single = once-replaced ws cell value ∙ F .single;
+        within = λ x w. F .within x (sym (wrote-replaced ws cell value x) ∙ w);
+      })
   go false true p r q =
-    let z : ws ++ record { cell = cell; value = value } ∷ [] ≡ vs = cc in
-    subst (Few place) z (few-more place ws (record { cell = cell; value = value }) F (ltb-true (length ws) 4 r) p h)
+      let z : ws ++ record { cell = cell; value = value } ∷ [] ≡ vs = cc in
+      subst (Few place) z (few-more place ws (record { cell = cell; value = value }) F (ltb-true (length ws) 4 r) p h)
   go false false p r q = let z : _≡_ {A = ℕ} 0 1 = cc in absurd (omega arith)
 
 -- Orderly transactions.
@@ -149,10 +158,10 @@ All-orderly m = (card : ℕ) → Orderly (tx-of m card)
 
 orderly-put : (m : Meaning) (card : ℕ) (t : Tx) → Orderly t → All-orderly m → All-orderly (with-tx m card t)
 orderly-put m card t o O d = ⊎-elim
-  (λ (e : d ≡ card).
+    (λ (e : d ≡ card).
     subst (λ c. Orderly (tx-of (with-tx m card t) c)) (sym e) (set-at Orderly (m .txs) card t o tt))
-  (λ (n : d ≡ card → ⊥). subst Orderly (sym (getD-set-other (m .txs) card d t none n)) (O d))
-  (cases-eq d card)
+    (λ (n : d ≡ card → ⊥). subst Orderly (sym (getD-set-other (m .txs) card d t none n)) (O d))
+    (cases-eq d card)
 
 orderly-struck : (a : Access) (cell : ℕ) (t : Tx) → Orderly t → Orderly (struck a cell t)
 orderly-struck a cell t o = go (conflicts a cell t) where
@@ -161,14 +170,14 @@ orderly-struck a cell t o = go (conflicts a cell t) where
   go false = o
 
 orderly-served : (a : Access) (card cell : ℕ) (own : Tx) (m : Meaning) → Orderly own → All-orderly m
-  → All-orderly (served a card cell own m)
+    → All-orderly (served a card cell own m)
 orderly-served a card cell own m o O d = ⊎-elim
-  (λ (e : d ≡ card).
+    (λ (e : d ≡ card).
     subst (λ c. Orderly (tx-of (served a card cell own m) c)) (sym e)
-      (set-at Orderly (map (struck a cell) (m .txs)) card own o tt))
-  (λ (n : d ≡ card → ⊥).
+    (set-at Orderly (map (struck a cell) (m .txs)) card own o tt))
+    (λ (n : d ≡ card → ⊥).
     subst Orderly (sym (served-other a card cell own m d n)) (orderly-struck a cell (tx-of m d) (O d)))
-  (cases-eq d card)
+    (cases-eq d card)
 
 orderly-kept : Kept All-orderly
 orderly-kept = record {
@@ -179,13 +188,14 @@ orderly-kept = record {
   at-access = λ m a card cell. orderly-served a card cell none m tt;
   at-store = λ m cell value O. O;
   at-own-read = λ m card cell ms ws b h e O.
-    orderly-served Reads card cell (live ms ws) m (subst Orderly e (O card)) O;
+      orderly-served Reads card cell (live ms ws) m (subst Orderly e (O card)) O;
   at-read = λ m card cell ms ns ws b h e q O.
-    let o : Orderly (live ms ws) = subst Orderly e (O card) in
-    orderly-served Reads card cell (live ns ws) m (few-marking ms ns cell (o .0) h q, o .1) O;
+      let o : Orderly (live ms ws) = subst Orderly e (O card) in
+      orderly-served Reads card cell (live ns ws) m (few-marking ms ns cell (o .0) h q, o .1) O;
   at-write = λ m card cell value ms ws vs b h e q O.
-    let o : Orderly (live ms ws) = subst Orderly e (O card) in
-    orderly-served Writes card cell (live ms vs) m (o .0, few-recording ws vs cell value (o .1) h q) O }
+      let o : Orderly (live ms ws) = subst Orderly e (O card) in
+      orderly-served Writes card cell (live ms vs) m (o .0, few-recording ws vs cell value (o .1) h q) O;
+}
 
 -- transactions stay orderly over a call
 pub orderly-call : (m : Meaning) (c : MemoryCall) → All-orderly m → All-orderly (performed m c .after)
@@ -197,7 +207,8 @@ sound-call m c S = record {
   cells = cells-call m c (S .cells);
   cards = cards-call m c (S .cards);
   orderly = orderly-call m c (S .orderly);
-  apart = apart-call m c (S .apart) }
+  apart = apart-call m c (S .apart);
+}
 
 -- a cleared memory has it
 pub sound-clear : Sound cleared
@@ -205,7 +216,8 @@ sound-clear = record {
   cells = refl;
   cards = refl;
   orderly = orderly-kept .at-clear;
-  apart = apart-kept .at-clear }
+  apart = apart-kept .at-clear;
+}
 
 -- and so has a memory after every list of calls
 pub always-sound : Always-sound

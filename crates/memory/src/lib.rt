@@ -1,6 +1,8 @@
 pub mod access;
 pub mod call;
 pub mod fault;
+pub mod marking;
+pub mod marks;
 pub mod memory;
 pub mod replay;
 pub mod search;

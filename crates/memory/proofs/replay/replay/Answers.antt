@@ -6,6 +6,7 @@ use Rattle.memory.specs.declared.call.MemoryCall.the-variants as call
 use Rattle.memory.specs.Meaning.{cleared}
 use Rattle.memory.specs.Calls.{after-calls}
 use Rattle.memory.specs.Isolation.{Sound}
+use Rattle.memory.proofs.Examples.{examples-hold}
 use Rattle.memory.proofs.Soundness.{always-sound}
 use Rattle.memory.proofs.replay.replay.Needs as need
 
@@ -23,5 +24,5 @@ returns g c =
     let i = c .loop-call .call-index in
     let m = g .M·Memory .meaning (c .loop-call .memory) in
     let e : m ≡ after-calls cleared calls =
-      sym (at-drop-all (after-calls m) calls i (c .loop-call-test .left)) ∙ c .loop-call .inv in
-    record { after = e; sound = subst Sound (sym e) (always-sound calls); law = always-sound }
+    sym (at-drop-all (after-calls m) calls i (c .loop-call-test .left)) ∙ c .loop-call .inv in
+    record { after = e; sound = subst Sound (sym e) (always-sound calls); law = always-sound; examples = examples-hold }
