@@ -4,3 +4,4 @@ pub mod Kept
 pub mod Rooms
 pub mod Seeks
 pub mod Soundness
+pub mod Woven

@@ -4,6 +4,7 @@ pub mod fault;
 pub mod marking;
 pub mod marks;
 pub mod memory;
+pub mod range;
 pub mod replay;
 pub mod search;
 pub mod write;

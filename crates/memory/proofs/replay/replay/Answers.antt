@@ -25,4 +25,9 @@ returns g c =
     let m = g .M·Memory .meaning (c .loop-call .memory) in
     let e : m ≡ after-calls cleared calls =
     sym (at-drop-all (after-calls m) calls i (c .loop-call-test .left)) ∙ c .loop-call .inv in
-    record { after = e; sound = subst Sound (sym e) (always-sound calls); law = always-sound; examples = examples-hold }
+    record {
+      after = e;
+      sound = subst Sound (sym e) (always-sound calls);
+      law = always-sound;
+      examples = examples-hold;
+    }
