@@ -6,7 +6,8 @@ use Rattle.std.specs.declared.result.Result.the-variants.{Ok, Err}
 use Rattle.memory.specs.declared.fault.MemoryFault.{MemoryFault}
 use Rattle.memory.specs.declared.call.MemoryCall.{MemoryCall}
 use Rattle.memory.specs.declared.call.MemoryCall.the-variants as call
-use Rattle.memory.specs.Meaning.{Meaning, Outcome, cleared, looking, loading, storing, beginning, reading, writing, committing, dropping}
+use Rattle.memory.specs.Meaning.{Meaning, Outcome, cleared, looking, loading, storing}
+use Rattle.memory.specs.Meaning.{beginning, reading, writing, committing, dropping}
 
 -- a call that answers no number answers 0
 abbrev pub as-zero : Outcome (Unit {0}) → Outcome ℕ

@@ -124,7 +124,8 @@ cleared = record { cells = replicate 137 0; txs = replicate 8 none }
 
 -- look: the standing value; nothing changes
 abbrev pub looking : Meaning → ℕ → Result ℕ MemoryFault
-looking m cell = cond (ltb cell 137) (Ok (standing m cell)) (Err (record { refusal = OutOfRange; card = 0; cell = cell }))
+looking m cell =
+    cond (ltb cell 137) (Ok (standing m cell)) (Err (record { refusal = OutOfRange; card = 0; cell = cell }))
 
 -- load: the standing value
 abbrev pub load-at : Meaning → ℕ → ℕ → Tx → Outcome ℕ

@@ -31,6 +31,19 @@ impl Refusal {
     }
 }
 
+impl Refusal {
+    // The refusal of a call by the card at the cell.
+    pub fn at(self, card: usize, cell: usize) -> MemoryFault
+        ensures { λ r. ⌜ r ≡ record { refusal = self; card = card; cell = cell } ⌝ }
+    {
+        MemoryFault {
+            refusal: self,
+            card,
+            cell,
+        }
+    }
+}
+
 // A refusal with the card and the cell of the call, 0 where it has none.
 #[derive(Clone, Copy)]
 pub struct MemoryFault {
