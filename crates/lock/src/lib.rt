@@ -2,6 +2,7 @@ mod advance;
 pub mod events;
 pub mod fault;
 mod lending;
+pub mod line;
 pub mod lock;
 mod nodes;
 pub mod requests;
