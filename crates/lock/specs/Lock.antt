@@ -2,7 +2,7 @@
 use mathlib.Core.Bool.{Bool, true, false, cond}
 use mathlib.Core.List.{List, [], _∷_}
 use Prim.Native.Nat.{ℕ, zero, suc}
-use lib.Dec.{eqb, ltb}
+use lib.Dec.{eqb, ltb, leb}
 use lib.ListN.{getD, set, replicate, length}
 use Rattle.std.specs.declared.option.Option.{Option}
 use Rattle.std.specs.declared.option.Option.the-variants.{Some, None}
@@ -31,6 +31,8 @@ use Rattle.stages.specs.declared.stage.Card.{Card}
 use Rattle.stages.specs.Layout.{node-cell, counter-cell, reader, writer}
 use Rattle.stages.specs.Rows.{call-of, begin-of, in-transaction, writer-entry-goes, reader-entry-goes, addition-goes, writer-exit-goes, reader-exit-goes}
 use Rattle.lock.specs.declared.values.NodeValues.{NodeValues}
+use Rattle.lock.specs.declared.fault.SizeFault.{SizeFault}
+use Rattle.lock.specs.declared.fault.SizeFault.the-variants as size
 use Rattle.lock.specs.declared.fault.LockFault.{LockFault}
 use Rattle.lock.specs.declared.fault.LockFault.the-variants.{NoCard, NotAllowed, NoPlace, NotFree, Memory}
 
@@ -39,6 +41,16 @@ pub record Size : Type 0 where
   pub cards : ℕ
   pub nodes : ℕ
   pub counters : ℕ
+
+-- whether a size is from 1 to the most
+abbrev pub within : ℕ → ℕ → Bool
+within most x = cond (leb 1 x) (leb x most) false
+
+-- the sizes that a board may have: 1 to 8 cards, 1 to 32 nodes, 1 to 8 counters
+abbrev pub sized : ℕ → ℕ → ℕ → Result Size SizeFault
+sized c n k =
+    cond (within 8 c) (cond (within 32 n) (cond (within 8 k)
+    (Ok (record { cards = c; nodes = n; counters = k })) (Err size.OutOfRange)) (Err size.OutOfRange)) (Err size.OutOfRange)
 
 -- the memory's meaning, and the records of the eight cards that there may be
 pub record LockState : Type 0 where
@@ -138,6 +150,12 @@ has-node (ReaderLeaves k at) n = eqb k n
 abbrev pub free : List Card → ℕ → Bool
 free [] n = true
 free (r ∷ rs) n = cond (has-node (r .stage) n) false (free rs n)
+
+-- one store: a refusal passes up
+abbrev pub stored : Meaning → ℕ → ℕ → ℕ → Result (Unit {0}) LockFault × Meaning
+stored m c x v =
+    let o = performed m (call.Store c x v) in
+    (elim (o .answer) [ Ok u ↦ Ok tt | Err f ↦ Err (Memory f) ], o .after)
 
 -- stores of one card in turn, up to the first that is refused
 abbrev pub stores : ℕ → List (ℕ × ℕ) → Meaning → Result (Unit {0}) LockFault × Meaning

@@ -1,5 +1,8 @@
 -- What a lock in the code is, over the meaning of its memory.
+use Rattle.std.specs.declared.result.Result.{Result}
+use Rattle.std.specs.declared.result.Result.the-variants.{Ok, Err}
 use Rattle.memory.specs.Meaning.{Meaning}
+use Rattle.lock.specs.declared.fault.SizeFault.{SizeFault}
 use Rattle.lock.specs.declared.lock.Lock.{Lock}
 use Rattle.lock.specs.declared.sizes.Sizes.{Sizes}
 use Rattle.lock.specs.Lock.{LockState, Size}
@@ -9,3 +12,8 @@ lock-state meaning l = record { meaning = meaning (l .memory); cards = l .table 
 
 abbrev pub size-of : Sizes → Size
 size-of z = record { cards = z .cards; nodes = z .nodes; counters = z .counters }
+
+-- a judgement of sizes in the code
+abbrev pub sizes-judged : Result Sizes SizeFault → Result Size SizeFault
+sizes-judged (Ok z) = Ok (size-of z)
+sizes-judged (Err e) = Err e

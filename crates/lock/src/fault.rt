@@ -1,6 +1,24 @@
 ghost use mathlib.Core.Path.{_≡_};
-ghost use Rattle.lock.specs.Faults.{number, raised};
+ghost use Rattle.lock.specs.Faults.{number, raised, size-number};
 use memory::fault::MemoryFault;
+
+// Why sizes are refused.
+#[derive(Clone, Copy)]
+pub enum SizeFault {
+    // a size is out of range
+    OutOfRange,
+}
+
+impl SizeFault {
+    // The number by which the refusal is known outside.
+    pub fn number(self) -> u16
+        ensures { λ r. ⌜ r ≡ size-number self ⌝ }
+    {
+        match self {
+            SizeFault::OutOfRange => 1,
+        }
+    }
+}
 
 // Why the lock refuses a call, in the order of judging.
 #[derive(Clone, Copy)]

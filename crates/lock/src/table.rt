@@ -1,7 +1,7 @@
 ghost use mathlib.Core.Path.{_≡_};
 ghost use lib.ListN.{length};
 
-// The records of the cards. The length is a parameter because an element is lent only out of a struct that has one.
+// The records of the eight cards that there may be.
 #[derive(Drop)]
 pub struct Table<T> {
     pub(crate) records: [T; 8],

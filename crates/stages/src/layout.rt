@@ -6,6 +6,13 @@ ghost use Rattle.stages.specs.Layout.{link, cell-of, counter-cell};
 // The cell that holds the link of the last node in line. A link is a node's number and 1, or 0 for nobody.
 pub const TAIL: usize = 0;
 
+// The states of a node: of a reader, of a writer, and of an active reader, one that was let in or is about to be.
+pub const READER: u16 = 1;
+
+pub const WRITER: u16 = 2;
+
+pub const ACTIVE: u16 = 3;
+
 // The four cells of a node.
 #[derive(Clone, Copy)]
 pub enum Field {
@@ -26,8 +33,8 @@ pub fn link_of(node: u8) -> u16
     u16::from(node) + 1
 }
 
-// The cell of a field of the node that a link names; the tail for the link of nobody, which no row that is reached
-// asks for.
+// The cell of a field of the node that a link names, and the tail for the link of nobody: who leaves as the last in
+// line writes to the tail what it would write to its successor's prev.
 pub fn cell_of(link: u16, field: Field) -> usize
     ensures { λ r. ⌜ r ≡ cell-of link field ⌝ }
 {

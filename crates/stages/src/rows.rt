@@ -1,76 +1,57 @@
-// The rows of the table of steps: one memory call each, and where the card goes by the memory's answer.
+// The rows of the table of steps: a card's stage names its row, and each row makes one memory call.
 ghost use mathlib.Core.Path.{_≡_};
-ghost use Rattle.stages.specs.Rows.{call-of, writer-entry-call, reader-entry-call, addition-call};
-ghost use Rattle.stages.specs.Rows.{writer-exit-call, reader-exit-call, begin-of, in-transaction};
-ghost use Rattle.stages.specs.Rows.{writer-entry-goes, reader-entry-goes, addition-goes};
-ghost use Rattle.stages.specs.Rows.{writer-exit-goes, reader-exit-goes};
-use crate::answer::Answer;
-use crate::layout::Field;
-use crate::layout::TAIL;
-use crate::layout::cell_of;
-use crate::layout::counter_cell;
-use crate::layout::link_of;
-use crate::stage::Addition;
-use crate::stage::Mode;
-use crate::stage::ReaderEntry;
-use crate::stage::ReaderExit;
+ghost use Rattle.stages.specs.Rows.{call-of, begin-of, in-transaction};
 use crate::stage::Stage;
-use crate::stage::WriterEntry;
-use crate::stage::WriterExit;
 use memory::call::MemoryCall;
 
-const ACTIVE: u16 = 3;
-
-impl WriterEntry {
-    fn call(self, card: usize, node: u8) -> MemoryCall
-        ensures { λ r. ⌜ r ≡ writer-entry-call card node self ⌝ }
-    {
-        let me = link_of(node);
-        match self {
-            WriterEntry::W1 => MemoryCall::Begin { card },
-            WriterEntry::W2 => MemoryCall::Read { card, cell: TAIL },
-            WriterEntry::W3 { .. } => MemoryCall::Write {
-                card,
-                cell: TAIL,
-                value: me,
-            },
-            WriterEntry::W4 { pred } => MemoryCall::Write {
-                card,
-                cell: cell_of(pred, Field::Next),
-                value: me,
-            },
-            WriterEntry::W5 { .. } => MemoryCall::Commit { card },
-            WriterEntry::W6 => MemoryCall::Load {
-                card,
-                cell: cell_of(me, Field::Spin),
-            },
-        }
+// The memory call of a card's stage on a board of so many nodes; none for a card that is idle or inside.
+pub fn call_of(nodes: u8, card: usize, stage: Stage) -> Option<MemoryCall>
+    ensures { λ r. ⌜ r ≡ call-of nodes card stage ⌝ }
+{
+    match stage {
+        Stage::Idle | Stage::Inside { .. } => None,
+        Stage::WriterEnters { node, at } => Some(at.call(card, node)),
+        Stage::ReaderEnters { node, at } => Some(at.call(card, node)),
+        Stage::Adds { at, .. } => Some(at.call(nodes, card)),
+        Stage::WriterLeaves { node, at } => Some(at.call(card, node)),
+        Stage::ReaderLeaves { node, at } => Some(at.call(card, node)),
     }
+}
 
-    fn goes(self, node: u8, value: u16) -> (Stage, Answer)
-        ensures { λ r. ⌜ r ≡ writer-entry-goes node self value ⌝ }
-    {
-        let at = match self {
-            WriterEntry::W1 => WriterEntry::W2,
-            WriterEntry::W2 => WriterEntry::W3 { pred: value },
-            WriterEntry::W3 { pred } if pred == 0 => WriterEntry::W5 { pred },
-            WriterEntry::W3 { pred } => WriterEntry::W4 { pred },
-            WriterEntry::W4 { pred } => WriterEntry::W5 { pred },
-            WriterEntry::W5 { pred } if pred != 0 => WriterEntry::W6,
-            WriterEntry::W6 if value != 0 => return (
-                Stage::WriterEnters { node, at: self },
-                Answer::Wait,
-            ),
-            WriterEntry::W5 { .. } | WriterEntry::W6 => {
-                return (
-                    Stage::Inside {
-                        node,
-                        mode: Mode::Write,
-                    },
-                    Answer::In,
-                );
-            }
-        };
-        (Stage::WriterEnters { node, at }, Answer::Step)
+// The begin of a stage's transaction, on the same node; a stage without one stays.
+pub fn begin_of(stage: Stage) -> Stage
+    ensures { λ r. ⌜ r ≡ begin-of stage ⌝ }
+{
+    match stage {
+        Stage::Idle | Stage::Inside { .. } | Stage::Adds { .. } => stage,
+        Stage::WriterEnters { node, at } => Stage::WriterEnters {
+            node,
+            at: at.begin(),
+        },
+        Stage::ReaderEnters { node, at } => Stage::ReaderEnters {
+            node,
+            at: at.begin(),
+        },
+        Stage::WriterLeaves { node, at } => Stage::WriterLeaves {
+            node,
+            at: at.begin(),
+        },
+        Stage::ReaderLeaves { node, at } => Stage::ReaderLeaves {
+            node,
+            at: at.begin(),
+        },
+    }
+}
+
+// Whether a call goes by a transaction.
+pub fn in_transaction(call: MemoryCall) -> bool
+    ensures { λ r. ⌜ r ≡ in-transaction call ⌝ }
+{
+    match call {
+        MemoryCall::Read { .. }
+        | MemoryCall::Write { .. }
+        | MemoryCall::Commit { .. }
+        | MemoryCall::Drop { .. } => true,
+        _ => false,
     }
 }
