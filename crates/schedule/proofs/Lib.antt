@@ -1,0 +1,6 @@
+pub mod Decimals
+pub mod Fields
+pub mod Letters
+pub mod Ends
+pub mod Fronts
+pub mod Sized
