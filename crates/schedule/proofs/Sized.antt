@@ -15,7 +15,7 @@ use Rattle.schedule.specs.declared.faults.FormFault.the-variants.{TooLong, Bad
 use Rattle.schedule.specs.Lines.{NumberLine}
 use Rattle.schedule.specs.Numbers.{Small}
 use Rattle.schedule.specs.Schedules.{linesOf, textOf, Sound, Fits, StopsAt}
-use Rattle.schedule.specs.Sections.{SizeSection, TakesSizes}
+use Rattle.schedule.specs.Sections.{SizeSection, TakesSizes, TakesCount}
 use Rattle.schedule.proofs.Ends.{no-end-decimal}
 use Rattle.schedule.proofs.Fronts.{Begun, begun-none, begun-more, stops, same-number}
 
@@ -95,3 +95,10 @@ pub fails-at : (bs : List ℕ) (r : Result (SizeLines × RefT (List ℕ)) FormFa
     → ErrBy r (λ y. y ≡ f) → f ≡ BadLine line → length bs ≤ 65535 → line ≤ 4 → StopsAt line bs → TakesSizes bs r
 fails-at bs (Ok x) f line e is short le stop = absurd e
 fails-at bs (Err g) f line e is short le stop = subst (λ h. TakesSizes bs (Err h)) (sym (e ∙ is)) (short, le, stop)
+
+-- a number above 2,000 is no count of events
+pub count-fails : (bs rest : List ℕ) (n : ℕ) (r : Result (ℕ × RefT (List ℕ)) FormFault) (f : FormFault)
+    → ErrBy r (λ y. y ≡ f) → f ≡ BadLine 5 → 2000 < n → NumberLine bs n rest → TakesCount bs r
+count-fails bs rest n (Ok x) f e is big h = absurd e
+count-fails bs rest n (Err g) f e is big h =
+    (e ∙ is, λ m after le k. omega (arith, same-number bs rest after n m h k .0))

@@ -20,6 +20,12 @@ pub record Numeral (bs : List ℕ) (n : ℕ) : Type 0 where
   pub small : n < 65536
   pub text : bs ≡ decimal n
 
+-- bs has a first byte, which is no sign, and no zero unless it stands alone
+pub record StartsPlain (bs : List ℕ) : Type 0 where
+  pub some : 0 < length bs
+  pub unsigned : getD bs 0 0 ≡ 43 → ⊥
+  pub alone : getD bs 0 0 ≡ 48 → length bs ≡ 1
+
 -- no digit stands at the front of bs
 abbrev pub Stops : List ℕ → Type 0
 Stops bs = In 48 57 (getD bs 0 0) → ⊥

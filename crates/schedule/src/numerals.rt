@@ -2,8 +2,9 @@
 ghost use mathlib.Core.Path.{_≡_};
 ghost use Prim.Native.Nat.{ℕ, _<_, _≤_};
 ghost use lib.ListN.{length, getD};
+ghost use Rattle.std.specs.Orderings.{Decides};
 ghost use Rattle.std.specs.Text.{In};
-ghost use Rattle.schedule.specs.Numbers.{Found, Numeral, TakesField, Spells};
+ghost use Rattle.schedule.specs.Numbers.{Found, Numeral, StartsPlain, TakesField, Spells};
 use std::str;
 
 const PLUS: u8 = b'+';
@@ -12,11 +13,18 @@ const ZERO: u8 = b'0';
 
 const SPACE: u8 = b' ';
 
+// Whether `digits` begins as the text of a number: no sign, no needless zero, and not empty.
+fn starts_plain(digits: &[u8]) -> bool
+    ensures { λ r. ⌜ Decides r (StartsPlain (now (digits .entry))) ⌝ }
+{
+    !digits.is_empty() && digits[0] != PLUS && (digits[0] != ZERO || digits.len() == 1)
+}
+
 // The number that `digits` is the text of. `parse` alone would take a sign and leading zeros.
 pub(crate) fn number(digits: &[u8]) -> Option<u16>
     ensures { λ r. ⌜ Found (Numeral (now (digits .entry))) r ⌝ }
 {
-    if digits.is_empty() || digits[0] == PLUS || digits[0] == ZERO && digits.len() > 1 {
+    if !starts_plain(digits) {
         return None;
     }
     let Ok(text) = str::from_utf8(digits) else {

@@ -1,8 +1,7 @@
-use mathlib.Core.Path.{refl}
-use native.Mathlib.Omega.{arith}
-use Rattle.schedule.proofs.Fronts.{same-number}
+use Rattle.schedule.proofs.Sized.{count-fails}
 use Rattle.schedule.proofs.sections.take_count.Needs as need
 
-pub returns-then-count-gt-MOST-EVENTS : need.returns-then-count-gt-MOST-EVENTS
-returns-then-count-gt-MOST-EVENTS c =
-    (refl, λ n after le h. omega (arith, same-number _ _ _ _ n (c .in-Continue-count .ensures tt) h .0))
+pub returns-in-Break-check-count : need.returns-in-Break-check-count
+returns-in-Break-check-count c =
+    let f = c .in-Break-check-count .ensures tt in
+    count-fails _ _ _ _ _ (c .from-residual-in-Break-check-count .ensures .1) (f .0) (f .1) (c .in-Continue-count .ensures tt)
