@@ -91,25 +91,33 @@ one-line L n after lt =
     ap (λ x. textOf x ++ after) (drop-take n 1 L ∙ ap (take 1) (drop-more L n [] lt))
     ∙ append-assoc (getD L n []) (10 ∷ []) after
 
--- a text that fits a schedule with one more line than are known goes on with that line
-pub fits-next : {bs : List ℕ} {done : List (List ℕ)} {rest : List ℕ} → Begun bs done rest → Fits (length done + 1) bs
-    → Next done rest
-fits-next {bs} {done} {rest} b f =
-    let L = linesOf (f .sizes) (f .events) in
+-- a text that begins with one more line of a schedule than are known goes on with that line
+pub next-of : {bs : List ℕ} {done : List (List ℕ)} {rest : List ℕ} (s : SizeLines) (es : List Event) (after : List ℕ)
+  → Begun bs done rest → Sound s es → length done < length (linesOf s es)
+  → bs ≡ textOf (take (length done + 1) (linesOf s es)) ++ after
+  → (take (length done) (linesOf s es) ≡ done) × (rest ≡ getD (linesOf s es) (length done) [] ++ (10 ∷ after))
+next-of {bs} {done} {rest} s es after b sound lt e =
+    let L = linesOf s es in
     let n = length done in
-    let le : n + 1 ≤ length L = f .enough in
-    let lt : n < length L = omega arith in
-    let long = length-take-le (n + 1) L le in
-    let k = peel done (take (n + 1) L) rest (f .after) (b .lines)
-    (all-take NoEnd (n + 1) L (no-ends (f .sizes) (f .events) (f .sound))) (omega arith) (sym (b .whole) ∙ f .whole) in
+    let long = length-take-le (n + 1) L (omega arith) in
+    let k = peel done (take (n + 1) L) rest after (b .lines) (all-take NoEnd (n + 1) L (no-ends s es sound)) (omega arith)
+      (sym (b .whole) ∙ e) in
+    (sym (take-take n (n + 1) L (omega arith)) ∙ k .0, k .1 ∙ one-line L n after lt)
+
+-- the same of some schedule
+pub fits-next : {bs : List ℕ} {done : List (List ℕ)} {rest : List ℕ} → Begun bs done rest → Fits (length done + 1) bs
+  → Next done rest
+fits-next {bs} {done} {rest} b f =
+    let le : length done + 1 ≤ length (linesOf (f .sizes) (f .events)) = f .enough in
+    let k = next-of (f .sizes) (f .events) (f .after) b (f .sound) (omega arith) (f .whole) in
     record {
       sizes = f .sizes;
       events = f .events;
       after = f .after;
       sound = f .sound;
-      enough = lt;
-      same = sym (take-take n (n + 1) L (omega arith)) ∙ k .0;
-      goes = k .1 ∙ one-line L n (f .after) lt;
+      enough = omega arith;
+      same = k .0;
+      goes = k .1;
     }
 
 -- the next line is the first at which the text stops to be that of a schedule

@@ -4,3 +4,5 @@ pub mod Letters
 pub mod Ends
 pub mod Fronts
 pub mod Sized
+pub mod Once
+pub mod Progress

@@ -35,6 +35,15 @@ pub record Renders (bs : List ℕ) (s : SizeLines) (es : List Event) : Type 0 wh
   pub sound : Sound s es
   pub text : bs ≡ rendered s es
 
+-- this text is the rendering of no schedule
+abbrev pub RendersNone : List ℕ → Type 0
+RendersNone bs = (s : SizeLines) (es : List Event) → Renders bs s es → ⊥
+
+-- two schedules that differ never have one text
+abbrev pub OneRendering : Type 0
+OneRendering =
+    (s t : SizeLines) (es fs : List Event) → Sound s es → Sound t fs → rendered s es ≡ rendered t fs → (s ≡ t) × (es ≡ fs)
+
 -- bs begins with the first k lines of some schedule's text
 pub record Fits (k : ℕ) (bs : List ℕ) : Type 0 where
   pub sizes : SizeLines
