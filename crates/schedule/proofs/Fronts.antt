@@ -93,20 +93,20 @@ one-line L n after lt =
 
 -- a text that begins with one more line of a schedule than are known goes on with that line
 pub next-of : {bs : List ℕ} {done : List (List ℕ)} {rest : List ℕ} (s : SizeLines) (es : List Event) (after : List ℕ)
-  → Begun bs done rest → Sound s es → length done < length (linesOf s es)
-  → bs ≡ textOf (take (length done + 1) (linesOf s es)) ++ after
-  → (take (length done) (linesOf s es) ≡ done) × (rest ≡ getD (linesOf s es) (length done) [] ++ (10 ∷ after))
+    → Begun bs done rest → Sound s es → length done < length (linesOf s es)
+    → bs ≡ textOf (take (length done + 1) (linesOf s es)) ++ after
+    → (take (length done) (linesOf s es) ≡ done) × (rest ≡ getD (linesOf s es) (length done) [] ++ (10 ∷ after))
 next-of {bs} {done} {rest} s es after b sound lt e =
     let L = linesOf s es in
     let n = length done in
     let long = length-take-le (n + 1) L (omega arith) in
     let k = peel done (take (n + 1) L) rest after (b .lines) (all-take NoEnd (n + 1) L (no-ends s es sound)) (omega arith)
-      (sym (b .whole) ∙ e) in
+    (sym (b .whole) ∙ e) in
     (sym (take-take n (n + 1) L (omega arith)) ∙ k .0, k .1 ∙ one-line L n after lt)
 
 -- the same of some schedule
 pub fits-next : {bs : List ℕ} {done : List (List ℕ)} {rest : List ℕ} → Begun bs done rest → Fits (length done + 1) bs
-  → Next done rest
+    → Next done rest
 fits-next {bs} {done} {rest} b f =
     let le : length done + 1 ≤ length (linesOf (f .sizes) (f .events)) = f .enough in
     let k = next-of (f .sizes) (f .events) (f .after) b (f .sound) (omega arith) (f .whole) in

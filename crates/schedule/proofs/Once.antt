@@ -69,7 +69,7 @@ one-event a b p q e =
     sym (told-is a) ∙ (λ i. told (l i) (n i)) ∙ told-is b
 
 same-events : (es fs : List Event) → All (λ e. Small (numbersOf e)) es → All (λ e. Small (numbersOf e)) fs
-  → map written es ≡ map written fs → es ≡ fs
+    → map written es ≡ map written fs → es ≡ fs
 same-events [] [] p q e = refl
 same-events [] (f ∷ fs) p q e =
     let z : length (map written []) ≡ length (map written (f ∷ fs)) = ap length e in absurd (omega arith)
@@ -107,6 +107,7 @@ one-rendering s t es fs p q e =
     let cards = same-from-decimal (s .cards) (t .cards) (omega arith) (omega arith) (ap (λ l. getD l 1 []) lines) in
     let nodes = same-from-decimal (s .nodes) (t .nodes) (omega arith) (omega arith) (ap (λ l. getD l 2 []) lines) in
     let counters = same-from-decimal (s .counters) (t .counters) (omega arith) (omega arith) (ap (λ l. getD l 3 []) lines) in
-    let written-same : map written es ≡ map written fs = cc in
-    ( (λ i. record { cards = cards i; nodes = nodes i; counters = counters i }),
-      same-events es fs (p .events) (q .events) written-same )
+    let written-same : map written es ≡ map written fs = cc in (
+      (λ i. record { cards = cards i; nodes = nodes i; counters = counters i }),
+      same-events es fs (p .events) (q .events) written-same,
+    )

@@ -43,15 +43,18 @@ pub record Progress (bs : List ℕ) (s : SizeLines) (count : ℕ) (done : List E
 begun-sizes : (bs head : List ℕ) (s : SizeLines) → SizeSection bs s head → Begun bs (sizesOf s) head
 begun-sizes bs head s h = record {
   whole = h .whole;
-  lines =
-      ( no-end-decimal 3 (omega arith),
-        ( no-end-decimal (s .cards) (h .small .0),
-          (no-end-decimal (s .nodes) (h .small .1 .0), (no-end-decimal (s .counters) (h .small .1 .1 .0), tt)) ) );
+  lines = (
+    no-end-decimal 3 (omega arith),
+    (
+      no-end-decimal (s .cards) (h .small .0),
+      (no-end-decimal (s .nodes) (h .small .1 .0), (no-end-decimal (s .counters) (h .small .1 .1 .0), tt)),
+    ),
+  );
 }
 
 -- the count is read
 pub progress-none : (bs head body : List ℕ) (s : SizeLines) (count : ℕ) → SizeSection bs s head → count ≤ 2000
-  → NumberLine head count body → Progress bs s count [] body
+    → NumberLine head count body → Progress bs s count [] body
 progress-none bs head body s count section few counted = record {
   head = head;
   body = body;
@@ -65,7 +68,7 @@ progress-none bs head body s count section few counted = record {
 
 -- an event more is read
 pub progress-more : {bs : List ℕ} {s : SizeLines} {count : ℕ} {done : List Event} {rest : List ℕ} (e : Event) (after : List ℕ)
-  → Progress bs s count done rest → length done < count → EventLine rest e after → Progress bs s count (done ++ e ∷ []) after
+    → Progress bs s count done rest → length done < count → EventLine rest e after → Progress bs s count (done ++ e ∷ []) after
 progress-more {bs} {s} {count} {done} {rest} e after p lt line = record {
   head = p .head;
   body = p .body;
@@ -97,11 +100,11 @@ renders-fits bs s es k r le = record {
 
 -- the count that is read is the count of every rendering
 same-count : (bs head body : List ℕ) (s t : SizeLines) (count : ℕ) (fs : List Event) → SizeSection bs s head
-  → NumberLine head count body → Renders bs t fs → length fs ≡ count
+    → NumberLine head count body → Renders bs t fs → length fs ≡ count
 same-count bs head body s t count fs section counted r =
     let few = r .sound .few in
     let k = next-of t fs (textOf (drop 5 (linesOf t fs))) (begun-sizes bs head s section) (r .sound) (omega arith)
-      (r .text ∙ text-split (linesOf t fs) 5) in
+    (r .text ∙ text-split (linesOf t fs) 5) in
     sym (same-number head body _ count (length fs) counted (record { small = omega arith; whole = k .1 }) .0)
 
 -- a text that stops at one of its first five lines is no rendering
@@ -112,7 +115,7 @@ early-none bs line stop le s es r =
 
 -- no count of events stands on the fifth line
 pub count-stops : (bs head : List ℕ) (s : SizeLines) → SizeSection bs s head
-  → ((n : ℕ) (after : List ℕ) → n ≤ 2000 → NumberLine head n after → ⊥) → StopsAt 5 bs
+    → ((n : ℕ) (after : List ℕ) → n ≤ 2000 → NumberLine head n after → ⊥) → StopsAt 5 bs
 count-stops bs head s section none =
     stops 5 (omega arith) (begun-sizes bs head s section)
     (record {
@@ -132,11 +135,11 @@ all-same P zero e h = tt
 all-same P (suc n) e h = (h, all-same P n e h)
 
 take-front : (s : SizeLines) (count : ℕ) (done more : List Event) → length (done ++ more) ≡ count
-  → take (length (frontOf s count done)) (linesOf s (done ++ more)) ≡ frontOf s count done
+    → take (length (frontOf s count done)) (linesOf s (done ++ more)) ≡ frontOf s count done
 take-front s count done more is =
     let events : take (length (map written done)) (map written (done ++ more)) ≡ map written done =
-      ap (take (length (map written done))) (map-append written done more)
-      ∙ take-at (map written done) (map written more) (length (map written done)) refl in
+    ap (take (length (map written done))) (map-append written done more)
+    ∙ take-at (map written done) (map written more) (length (map written done)) refl in
     (λ i. decimal 3 ∷ decimal (s .cards) ∷ decimal (s .nodes) ∷ decimal (s .counters) ∷ decimal (is i) ∷ events i)
 
 module _ {bs : List ℕ} {s : SizeLines} {count : ℕ} {done : List Event} {rest : List ℕ} (p : Progress bs s count done rest) where
@@ -168,9 +171,10 @@ module _ {bs : List ℕ} {s : SizeLines} {count : ℕ} {done : List Event} {rest
       same-from-decimal (length (x .events)) count (omega arith) (omega arith) (ap (λ l. getD l 4 []) (x .same))
 
   -- an event is to come, and the next line is that of none
-  pub event-stops : length done < count → ((e : Event) (after : List ℕ) → EventLine rest e after → ⊥) → StopsAt (6 + length done) bs
-  event-stops lt none =
-      stops (6 + length done) (omega (arith, length-map done written)) (p .begun) fits-done
+  pub event-stops : (line : ℕ) → line ≡ 6 + length done → length done < count
+      → ((e : Event) (after : List ℕ) → EventLine rest e after → ⊥) → StopsAt line bs
+  event-stops line is lt none =
+      stops line (omega (arith, length-map done written)) (p .begun) fits-done
       (λ x.
       let i = length (map written done) in
       let at : i < length (x .events) = omega (arith, length-map done written, next-count x) in
@@ -183,7 +187,8 @@ module _ {bs : List ℕ} {s : SizeLines} {count : ℕ} {done : List Event} {rest
   pub event-none : (line : ℕ) → line ≡ 6 + length done → length done < count → StopsAt line bs → RendersNone bs
   event-none line is lt stop t fs r =
       let next = stop .next in
-      stop .none (renders-fits bs t fs (stop .before + 1) r (omega (arith, length-map fs written, same-count bs (p .head) (p .body) s t count fs (p .section) (p .counted) r)))
+      let same = same-count bs (p .head) (p .body) s t count fs (p .section) (p .counted) r in
+      stop .none (renders-fits bs t fs (stop .before + 1) r (omega (arith, length-map fs written)))
 
   -- no event is to come: the text stops at the next line
   pub end-stops : length done ≡ count → StopsAt (6 + count) bs
@@ -198,7 +203,7 @@ module _ {bs : List ℕ} {s : SizeLines} {count : ℕ} {done : List Event} {rest
       let m = length-map done written in
       let n = length-map fs written in
       let k = peel (frontOf s count done) (linesOf t fs) rest [] (p .begun .lines) (no-ends t fs (r .sound)) (omega arith)
-        (sym (p .begun .whole) ∙ r .text ∙ sym (append-nil (textOf (linesOf t fs)))) in
+      (sym (p .begun .whole) ∙ r .text ∙ sym (append-nil (textOf (linesOf t fs)))) in
       some (k .1 ∙ ap (λ l. textOf l ++ []) (drop-all (length (frontOf s count done)) (linesOf t fs) (omega arith)))
 
   -- all events are read, and nothing is left
