@@ -1,4 +1,7 @@
 pub mod call;
+pub mod calls;
 pub mod door;
 pub mod fault;
 pub mod request;
+pub mod requests;
+pub mod set_up;
