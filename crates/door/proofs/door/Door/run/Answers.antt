@@ -1,7 +1,7 @@
 use borrow.Author.Needs.{needs}
 use mathlib.Core.Path.{ap}
 use Rattle.lock.specs.Locks.{size-of}
-use Rattle.door.proofs.Runs.{ran-more, ran-all}
+use Rattle.door.proofs.Turns.{ran-more, ran-all}
 use Rattle.door.proofs.door.Door.run.Needs as need
 
 pub loop-call-again : need.loop-call-again
