@@ -126,3 +126,13 @@ called z s (call.Request c t k a b) = asked z s c t k a b
 called z s (call.Step c) = passed s (stepped z (s .lock) c)
 called z s (call.Abort c) = passed s (aborted z (s .lock) c)
 called z s (call.Reuse c n v) = passed s (reused z (s .lock) c n v)
+
+-- the state after calls in turn
+abbrev pub ran : Size → DoorState → List Call → DoorState
+ran z s [] = s
+ran z s (c ∷ cs) = ran z (called z s c .1) cs
+
+-- the answers to calls in turn
+abbrev pub answers : Size → DoorState → List Call → List (Result Answer DoorFault)
+answers z s [] = []
+answers z s (c ∷ cs) = called z s c .0 ∷ answers z (called z s c .1) cs

@@ -1,6 +1,14 @@
 ghost use mathlib.Core.Path.{_≡_};
 ghost use Rattle.door.specs.Faults.{number, raised};
 use lock::fault::LockFault;
+use lock::fault::SizeFault;
+
+// Sizes that are refused, and the memory that was to be set up, as it was.
+#[derive(Drop)]
+pub struct Unfit<M> {
+    pub fault: SizeFault,
+    pub memory: M,
+}
 
 // Why the door refuses a call.
 #[derive(Clone, Copy)]

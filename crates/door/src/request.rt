@@ -1,9 +1,10 @@
 use lock::fault::LockFault;
 use stages::answer::Answer;
 use stages::stage::Mode;
+use stages::stage::ModePartialEq;
 
 // What a card asks for.
-#[derive(Clone, Copy)]
+#[derive(Clone, Copy, PartialEq, Eq)]
 pub enum Request {
     Enter { mode: Mode, node: u16 },
     Leave,

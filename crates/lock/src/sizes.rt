@@ -1,6 +1,6 @@
 ghost use Prim.Native.Nat.{_≤_};
 
-// How many cards, nodes and counters a board has. A value exists only within the ranges, so that no later call tests
+// How many cards, nodes and counters a board has. A value exists only within the ranges, so that no later call judges
 // them.
 #[derive(Clone, Copy)]
 pub struct Sizes {

@@ -36,7 +36,7 @@ impl Sizes {
     }
 
     // Whether there is a card of a number.
-    pub(crate) fn has_card(self, card: usize) -> bool
+    pub fn has_card(self, card: usize) -> bool
         ensures { λ r. ⌜ r ≡ ltb card (self .cards) ⌝ }
     {
         card < usize::from(self.cards)

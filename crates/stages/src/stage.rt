@@ -1,7 +1,7 @@
 // Where a card stands in the lock's procedure. The names of the rows are those of the table of steps.
 
 // To share the inside with other readers, or to be alone there.
-#[derive(Clone, Copy)]
+#[derive(Clone, Copy, PartialEq, Eq)]
 pub enum Mode {
     Read,
     Write,
