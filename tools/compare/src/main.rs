@@ -13,8 +13,8 @@ use std::time::{Duration, Instant};
 use independent::deferred::Deferred;
 use independent::in_place::InPlace;
 use independent::output::run;
-use independent::promise::{Depth, Watched};
 use independent::random::Random;
+use independent::watched::{Depth, Watched};
 
 use draw::{Kind, Schedule};
 use options::Options;

@@ -5,7 +5,7 @@ use crate::memory::{
     CELLS,
 };
 
-#[derive(Clone)]
+#[derive(Clone, PartialEq, Eq, Hash)]
 pub struct Deferred {
     /// The standing values.
     cells: [u16; CELLS],

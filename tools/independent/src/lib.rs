@@ -9,10 +9,11 @@
 //! | `lock` | docs/steps.md |
 //! | `door` | docs/door-rules.md |
 //! | `schedule`, `output` | docs/schedules.md |
-//! | `promise` | docs/promise.md: the promises as checks on a running board |
+//! | `promise`, `watched`, `explore` | docs/promise.md, as checks on a running board |
 
 pub mod deferred;
 pub mod door;
+pub mod explore;
 pub mod in_place;
 pub mod lock;
 pub mod memory;
@@ -20,6 +21,7 @@ pub mod output;
 pub mod promise;
 pub mod random;
 pub mod schedule;
+pub mod watched;
 
 #[cfg(test)]
 mod tests;

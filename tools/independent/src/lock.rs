@@ -3,7 +3,7 @@
 use crate::memory::{Fault, Memory, Refusal, CARDS};
 
 /// The sizes of a board, in range.
-#[derive(Clone, Copy, Debug, PartialEq, Eq)]
+#[derive(Clone, Copy, Debug, PartialEq, Eq, Hash)]
 pub struct Sizes {
     cards: usize,
     nodes: usize,
@@ -60,14 +60,14 @@ pub fn spin_of(link: u16) -> usize {
     4 * usize::from(link)
 }
 
-#[derive(Clone, Copy, Debug, PartialEq, Eq)]
+#[derive(Clone, Copy, Debug, PartialEq, Eq, Hash)]
 pub enum Mode {
     Read,
     Write,
 }
 
 /// Where a card stands, with the numbers that it keeps there.
-#[derive(Clone, Copy, Debug, PartialEq, Eq)]
+#[derive(Clone, Copy, Debug, PartialEq, Eq, Hash)]
 pub enum Stage {
     Idle,
     Inside,
@@ -133,12 +133,13 @@ impl Stage {
         }
     }
 
+    /// Before the joining commit.
+    pub fn is_entering(self) -> bool {
+        matches!(self, Stage::W1 | Stage::R1) || matches!(self.begin(), Some(Stage::W1 | Stage::R1))
+    }
+
     pub fn in_line(self) -> bool {
-        match self {
-            Stage::Idle | Stage::X5 { .. } | Stage::Y8 { .. } => false,
-            Stage::W1 | Stage::R1 => false,
-            _ => !matches!(self.begin(), Some(Stage::W1 | Stage::R1)),
-        }
+        !self.is_entering() && !matches!(self, Stage::Idle | Stage::X5 { .. } | Stage::Y8 { .. })
     }
 
     pub fn waits(self) -> bool {
@@ -152,11 +153,15 @@ impl Stage {
 }
 
 /// A card's record. Node and mode mean something while the card is not idle.
-#[derive(Clone, Copy, Debug, PartialEq, Eq)]
+#[derive(Clone, Copy, Debug, PartialEq, Eq, Hash)]
 pub struct Card {
     pub stage: Stage,
     pub node: usize,
     pub mode: Mode,
+}
+
+impl Card {
+    const IDLE: Card = Card { stage: Stage::Idle, node: 0, mode: Mode::Read };
 }
 
 #[derive(Clone, Copy, Debug, PartialEq, Eq)]
@@ -196,7 +201,7 @@ enum Access {
     Store(usize, u16),
 }
 
-#[derive(Clone)]
+#[derive(Clone, PartialEq, Eq, Hash)]
 pub struct Lock<M> {
     sizes: Sizes,
     memory: M,
@@ -206,7 +211,7 @@ pub struct Lock<M> {
 impl<M: Memory> Lock<M> {
     pub fn new(sizes: Sizes, mut memory: M) -> Self {
         memory.clear();
-        Lock { sizes, memory, cards: [Card { stage: Stage::Idle, node: 0, mode: Mode::Read }; CARDS] }
+        Lock { sizes, memory, cards: [Card::IDLE; CARDS] }
     }
 
     pub fn sizes(&self) -> Sizes {
@@ -447,6 +452,9 @@ impl<M: Memory> Lock<M> {
             Stage::A1 { counter, amount } => Stage::A2 { counter, amount, value },
         };
         self.cards[card].stage = after;
+        if after == Stage::Idle {
+            self.cards[card] = Card::IDLE;
+        }
         match (before, after) {
             (Stage::A2 { amount, value, .. }, _) => Answer::Added(value.saturating_add(amount)),
             (Stage::W6, Stage::W6) | (Stage::R8, Stage::R8) => Answer::Wait,

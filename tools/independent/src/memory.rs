@@ -68,7 +68,7 @@ pub(crate) trait AboutCell {
     fn cell(&self) -> usize;
 }
 
-#[derive(Clone, Copy, Default)]
+#[derive(Clone, Copy, Default, PartialEq, Eq, Hash)]
 pub(crate) struct Mark(pub u8);
 
 impl AboutCell for Mark {
@@ -78,7 +78,7 @@ impl AboutCell for Mark {
 }
 
 /// A written cell with a number: the new value in the deferred memory, the old one in the in-place memory.
-#[derive(Clone, Copy, Default)]
+#[derive(Clone, Copy, Default, PartialEq, Eq, Hash)]
 pub(crate) struct Written {
     pub cell: u8,
     pub value: u16,
@@ -91,7 +91,7 @@ impl AboutCell for Written {
 }
 
 /// At most four records, each about another cell, in order of arrival.
-#[derive(Clone, Copy, Default)]
+#[derive(Clone, Copy, Default, PartialEq, Eq, Hash)]
 pub(crate) struct Few<T> {
     items: [T; MOST],
     len: u8,
@@ -130,13 +130,13 @@ impl<T: AboutCell + Copy> Few<T> {
     }
 }
 
-#[derive(Clone, Copy, Default)]
+#[derive(Clone, Copy, Default, PartialEq, Eq, Hash)]
 pub(crate) struct Open {
     pub marks: Few<Mark>,
     pub writes: Few<Written>,
 }
 
-#[derive(Clone, Copy, Default)]
+#[derive(Clone, Copy, Default, PartialEq, Eq, Hash)]
 pub(crate) enum Transaction {
     #[default]
     None,
@@ -154,7 +154,7 @@ pub(crate) enum Touch {
 }
 
 /// The transactions of the eight cards.
-#[derive(Clone, Default)]
+#[derive(Clone, Default, PartialEq, Eq, Hash)]
 pub(crate) struct Transactions {
     of: [Transaction; CARDS],
 }
