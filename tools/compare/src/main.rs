@@ -132,8 +132,11 @@ fn try_schedule(
         }
     }
     if options.check {
-        let depth = check(schedule, options.seed, index)
-            .map_err(|what| Found { what, expected: expected.clone(), got: None })?;
+        let depth = check(schedule, options.seed, index).map_err(|what| Found {
+            what,
+            expected: expected.clone(),
+            got: None,
+        })?;
         tally.depth.add(&depth);
     }
     tally.schedules += 1;
