@@ -12,8 +12,8 @@ comment. A block has four lines:
     old: transaction.has_written(cell)
     new: transaction.has_marked(cell)
 
-'file' is a path from the repository's root. The text after 'old: ' must stand exactly once in that file, within a line;
-the text after 'new: ' takes its place (an empty one deletes it). A label names one block only.
+'file' is a path from the repository's root. The text after 'old: ' must stand exactly once in that file, within a
+line; the text after 'new: ' takes its place (an empty one deletes it). A label names one block only.
 
 Each fault is judged by the crate whose file it is in. If that crate is still proved and --above is given, the crates
 that stand on it are checked too, in the order of crates.txt. Every fault ends as one of
@@ -172,7 +172,12 @@ def check(copy, command, crate, seconds):
 
 def first_error(copy, text):
     """The place of the first error, as a path within the repository, or the first line that looks like one."""
-    for pattern in (r"^(\S+): error", r"^note: (\S*:\d+:\d+):", r"^(?:rt: )?(.*(?:error|FAILED|not proved|refused).*)$"):
+    patterns = (
+        r"^(\S+): error",
+        r"^note: (\S*:\d+:\d+):",
+        r"^(?:rt: )?(.*(?:error|FAILED|NOT PROVED|refused).*)$",
+    )
+    for pattern in patterns:
         found = re.search(pattern, text, re.MULTILINE)
         if found:
             return found.group(1).replace(str(copy) + "/", "").strip()[:160]
@@ -237,7 +242,7 @@ def parse_options(words):
     )
     parser.add_argument("list", type=Path)
     parser.add_argument("--repo", type=Path, default=Path(__file__).resolve().parents[2])
-    parser.add_argument("--only", action="append", metavar="LABEL", help="only this fault; may be given more than once")
+    parser.add_argument("--only", action="append", metavar="LABEL", help="only this fault; may be repeated")
     parser.add_argument("--above", action="store_true", help="check the crates above too, while the fault survives")
     parser.add_argument("--fresh", action="store_true", help="start without a copy of target/")
     parser.add_argument("--command", default="rt check {crate}", help="the check; {crate} is the crate's name")

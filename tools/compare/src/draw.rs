@@ -52,7 +52,7 @@ pub struct Schedule {
 impl Schedule {
     /// The schedule of this seed and index, the same each time.
     pub fn draw(seed: u64, index: u64) -> Schedule {
-        let mut random = Random::new(Random::new(seed ^ index.wrapping_mul(0xd134_2543_de82_ef95)).next());
+        let mut random = Random::new(Random::new(seed ^ index.wrapping_mul(0xd134_2543_de82_ef95)).draw());
         let kind = match random.below(100) {
             0..=54 => Kind::Run,
             55..=62 => Kind::LongRun,
@@ -118,7 +118,7 @@ fn run_text(random: &mut Random, most: usize) -> Vec<u8> {
     let count = if most == 2_000 { random.pick(&[2_000, 1_999, 1_000]) } else { 1 + random.below(most) };
     let Some(sizes) = Sizes::new(cards, nodes, counters) else { return Vec::new() };
     let mut door = Door::new(sizes, Deferred::default());
-    let mut drawer = Drawer::new(Random::new(random.next()), style);
+    let mut drawer = Drawer::new(Random::new(random.draw()), style);
     let mut events = Vec::with_capacity(count);
     for _ in 0..count {
         let call = drawer.call(&door);
@@ -174,7 +174,7 @@ fn damage_bytes(random: &mut Random, text: &mut Vec<u8>) {
     let place = random.below(text.len() + 1);
     let changed = text.get_mut(place);
     match (random.below(8), changed) {
-        (0, Some(byte)) => *byte = random.next() as u8,
+        (0, Some(byte)) => *byte = random.draw() as u8,
         (1, Some(_)) => {
             text.remove(place);
         }
@@ -218,9 +218,11 @@ fn damage_lines(random: &mut Random, text: &mut Vec<u8>) {
 }
 
 fn sizes_text(random: &mut Random) -> Vec<u8> {
-    let lines = ["0", "1", "2", "7", "8", "9", "31", "32", "33", "65535", "65536", "", "01", "-1", "+1", "x", " 1", "1 "];
+    let lines =
+        ["0", "1", "2", "7", "8", "9", "31", "32", "33", "65535", "65536", "", "01", "-1", "+1", "x", " 1", "1 "];
     let usual = |random: &mut Random| ["1", "2", "8"][random.below(3)];
-    let mut text = String::from(if random.chance(90) { "3\n" } else { random.pick(&["4\n", "03\n", "3 \n", "\n", "3"]) });
+    let mut text =
+        String::from(if random.chance(90) { "3\n" } else { random.pick(&["4\n", "03\n", "3 \n", "\n", "3"]) });
     let odd = random.below(4);
     for k in 0..3 {
         text.push_str(if k == odd { lines[random.below(lines.len())] } else { usual(random) });
@@ -270,7 +272,7 @@ fn nonsense(random: &mut Random) -> Vec<u8> {
     let printable = random.chance(60);
     let bytes = b"3\n1\n1\n1\n0\n srwlacxu0123456789";
     let mut text: Vec<u8> =
-        (0..length).map(|_| if printable { random.pick(bytes) } else { random.next() as u8 }).collect();
+        (0..length).map(|_| if printable { random.pick(bytes) } else { random.draw() as u8 }).collect();
     if random.chance(50) {
         let mut start = b"3\n2\n2\n1\n9\n".to_vec();
         start.append(&mut text);

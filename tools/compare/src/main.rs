@@ -80,6 +80,27 @@ struct Found {
     got: Option<Vec<u8>>,
 }
 
+impl Found {
+    /// The first line that differs, with both texts of it.
+    fn first_line(&self) -> Option<String> {
+        let got = String::from_utf8_lossy(self.got.as_ref()?);
+        let mut expected = self.expected.lines();
+        let mut got = got.lines();
+        let mut number = 0;
+        loop {
+            number += 1;
+            match (expected.next(), got.next()) {
+                (None, None) => return None,
+                (one, other) if one == other => {}
+                (one, other) => {
+                    let (one, other) = (one.unwrap_or("(nothing)"), other.unwrap_or("(nothing)"));
+                    return Some(format!("line {number}: expected `{one}`, got `{other}`"));
+                }
+            }
+        }
+    }
+}
+
 fn try_schedule(
     options: &Options,
     program: Option<&Program>,
@@ -104,15 +125,18 @@ fn try_schedule(
                 Err(error) => (Some(format!("cannot run it: {error}")), None),
             };
             if let Some(what) = what {
-                let what = format!("lockrun {}: {what}", word.unwrap_or(""));
+                let what = format!("lockrun{}: {what}", word.map_or(String::new(), |word| format!(" {word}")));
                 return Err(Found { what, expected, got });
             }
             tally.runs += 1;
         }
     }
     if options.check {
-        let depth = check(schedule, options.seed, index)
-            .map_err(|what| Found { what, expected: expected.clone(), got: None })?;
+        let depth = check(schedule, options.seed, index).map_err(|what| Found {
+            what,
+            expected: expected.clone(),
+            got: None,
+        })?;
         tally.depth.add(&depth);
     }
     tally.schedules += 1;
@@ -164,6 +188,9 @@ fn report(options: &Options, schedule: &Schedule, index: u64, found: &Found) -> 
         write(path("got"), got)?;
     }
     println!("schedule {index} of seed {} ({}): {}", options.seed, schedule.kind.name(), found.what);
+    if let Some(line) = found.first_line() {
+        println!("{line}");
+    }
     println!("replay: compare --lockrun PATH --replay {}", path("in").display());
     Ok(())
 }

@@ -3,7 +3,8 @@
 use std::path::PathBuf;
 use std::time::Duration;
 
-pub const USAGE: &str = "usage: compare [--lockrun PATH] [--memory WORD].. [--check] [--seed N] [--count N] [--first N]
+pub const USAGE: &str =
+    "usage: compare [--lockrun PATH] [--memory WORD].. [--check] [--seed N] [--count N] [--first N]
                [--seconds N] [--patience N] [--out FOLDER] [--replay FILE]
   --lockrun PATH   the program to hold against the independent implementation; without it only that one is run
   --memory WORD    run lockrun with this word; may be given more than once; without it lockrun gets no word

@@ -1,8 +1,8 @@
 //! The memory that sets written values aside until commit.
 
 use crate::memory::{
-    is_cell, small, Fault, Mark, Meaning, Memory, Refusal, Touch, Transaction, TransactionMeaning, Transactions, Written,
-    CELLS,
+    is_cell, small, Fault, Mark, Meaning, Memory, Refusal, Touch, Transaction, TransactionMeaning, Transactions,
+    Written, CELLS,
 };
 
 #[derive(Clone, PartialEq, Eq, Hash)]

@@ -3,9 +3,9 @@
 //! Where random runs go deep, this goes everywhere. The door is left out (a resend changes nothing, a refused call
 //! neither); adds are of 65,535, so that a counter has two values; a reuse writes four times 65,535.
 //!
-//! Three cards have too many states for that. The tidy runs are those in which a card that is out sets its node's cells
-//! to 0 at once, by a reuse, and a card enters with the lowest free node. Free nodes are then all alike, so that which
-//! one is taken makes no difference but in the names.
+//! Three cards have too many states for that. The tidy runs are those in which a card that is out sets its node's
+//! cells to 0 at once, by a reuse, and a card enters with the lowest free node. Free nodes are then all alike, so that
+//! which one is taken makes no difference but in the names.
 
 use std::collections::hash_map::DefaultHasher;
 use std::collections::HashSet;
@@ -66,7 +66,7 @@ pub fn explore(
     while let Some(state) = open.pop() {
         let meaning = state.check()?;
         visited.states += 1;
-        if visited.states % 1_000_000 == 0 {
+        if visited.states.is_multiple_of(1_000_000) {
             progress(visited.states);
         }
         if visited.states >= limit {
@@ -151,7 +151,9 @@ impl State {
             Move::Reuse { node } => lock.reuse(card, node, [65_535; 4]),
         };
         match answer {
-            Err(LockRefusal::Memory(fault)) => return Err(format!("refusal 8: {fault:?} at {:?}", self.lock.cards())),
+            Err(LockRefusal::Memory(fault)) => {
+                return Err(format!("refusal 8: {fault:?} at {:?}", self.lock.cards()))
+            }
             Err(_) => return Ok(None),
             Ok(answer) => next.book(self, card, step, answer)?,
         }

@@ -1,8 +1,8 @@
 //! The memory that puts written values into the cells at once and keeps the old ones to restore.
 
 use crate::memory::{
-    is_cell, small, Fault, Mark, Meaning, Memory, Open, Refusal, Touch, Transaction, TransactionMeaning, Transactions,
-    Written, CELLS,
+    is_cell, small, Fault, Mark, Meaning, Memory, Open, Refusal, Touch, Transaction, TransactionMeaning,
+    Transactions, Written, CELLS,
 };
 
 #[derive(Clone)]

@@ -73,41 +73,91 @@ pub enum Stage {
     Inside,
     W1,
     W2,
-    W3 { pred: u16 },
-    W4 { pred: u16 },
-    W5 { pred: u16 },
+    W3 {
+        pred: u16,
+    },
+    W4 {
+        pred: u16,
+    },
+    W5 {
+        pred: u16,
+    },
     W6,
     R1,
     R2,
-    R3 { pred: u16 },
-    R4 { pred: u16 },
-    R5 { pred: u16 },
-    R6 { pred: u16 },
+    R3 {
+        pred: u16,
+    },
+    R4 {
+        pred: u16,
+    },
+    R5 {
+        pred: u16,
+    },
+    R6 {
+        pred: u16,
+    },
     /// `waits` is what ps and pred decide.
-    R7 { waits: bool },
+    R7 {
+        waits: bool,
+    },
     R8,
     R9,
     R10,
     R11,
-    R12 { nxt: u16 },
-    R13 { nxt: u16 },
-    R14 { nxt: u16 },
+    R12 {
+        nxt: u16,
+    },
+    R13 {
+        nxt: u16,
+    },
+    R14 {
+        nxt: u16,
+    },
     X1,
     X2,
-    X3 { nxt: u16 },
-    X4 { nxt: u16 },
-    X5 { nxt: u16 },
+    X3 {
+        nxt: u16,
+    },
+    X4 {
+        nxt: u16,
+    },
+    X5 {
+        nxt: u16,
+    },
     Y1,
     Y2,
-    Y3 { pred: u16 },
-    Y4 { pred: u16, nxt: u16 },
-    Y5 { pred: u16, nxt: u16 },
-    Y6 { nxt: u16 },
+    Y3 {
+        pred: u16,
+    },
+    Y4 {
+        pred: u16,
+        nxt: u16,
+    },
+    Y5 {
+        pred: u16,
+        nxt: u16,
+    },
+    Y6 {
+        nxt: u16,
+    },
     /// `wakes` is what ss decides, false where Y6 was not passed.
-    Y7 { nxt: u16, wakes: bool },
-    Y8 { nxt: u16 },
-    A1 { counter: usize, amount: u16 },
-    A2 { counter: usize, amount: u16, value: u16 },
+    Y7 {
+        nxt: u16,
+        wakes: bool,
+    },
+    Y8 {
+        nxt: u16,
+    },
+    A1 {
+        counter: usize,
+        amount: u16,
+    },
+    A2 {
+        counter: usize,
+        amount: u16,
+        value: u16,
+    },
 }
 
 impl Stage {
@@ -404,53 +454,7 @@ impl<M: Memory> Lock<M> {
     /// Moves the card along its row, after the memory accepted the call with this value.
     fn advance(&mut self, card: usize, value: u16) -> Answer {
         let before = self.cards[card].stage;
-        let after = match before {
-            Stage::Idle => Stage::Idle,
-            Stage::W1 => Stage::W2,
-            Stage::W2 => Stage::W3 { pred: value },
-            Stage::W3 { pred: 0 } => Stage::W5 { pred: 0 },
-            Stage::W3 { pred } => Stage::W4 { pred },
-            Stage::W4 { pred } => Stage::W5 { pred },
-            Stage::W5 { pred: 0 } => Stage::Inside,
-            Stage::W5 { .. } => Stage::W6,
-            Stage::W6 if value == 0 => Stage::Inside,
-            Stage::W6 => Stage::W6,
-            Stage::R1 => Stage::R2,
-            Stage::R2 => Stage::R3 { pred: value },
-            Stage::R3 { pred: 0 } => Stage::R7 { waits: false },
-            Stage::R3 { pred } => Stage::R4 { pred },
-            Stage::R4 { pred } => Stage::R5 { pred },
-            Stage::R5 { pred } => Stage::R6 { pred },
-            Stage::R6 { .. } => Stage::R7 { waits: value != ACTIVE_READER },
-            Stage::R7 { waits: true } => Stage::R8,
-            Stage::R7 { waits: false } => Stage::R9,
-            Stage::R8 if value == 0 => Stage::R9,
-            Stage::R8 => Stage::R8,
-            Stage::R9 => Stage::R10,
-            Stage::R10 => Stage::R11,
-            Stage::R11 => Stage::R12 { nxt: value },
-            Stage::R12 { nxt: 0 } => Stage::Inside,
-            Stage::R12 { nxt } => Stage::R13 { nxt },
-            Stage::R13 { nxt } if value == READER => Stage::R14 { nxt },
-            Stage::R13 { .. } | Stage::R14 { .. } | Stage::Inside | Stage::A2 { .. } => Stage::Inside,
-            Stage::X1 => Stage::X2,
-            Stage::X2 => Stage::X3 { nxt: value },
-            Stage::X3 { nxt } => Stage::X4 { nxt },
-            Stage::X4 { nxt: 0 } => Stage::Idle,
-            Stage::X4 { nxt } => Stage::X5 { nxt },
-            Stage::X5 { .. } | Stage::Y8 { .. } => Stage::Idle,
-            Stage::Y1 => Stage::Y2,
-            Stage::Y2 => Stage::Y3 { pred: value },
-            Stage::Y3 { pred: 0 } => Stage::Y5 { pred: 0, nxt: value },
-            Stage::Y3 { pred } => Stage::Y4 { pred, nxt: value },
-            Stage::Y4 { pred, nxt } => Stage::Y5 { pred, nxt },
-            Stage::Y5 { pred: 0, nxt } if nxt != 0 => Stage::Y6 { nxt },
-            Stage::Y5 { nxt, .. } => Stage::Y7 { nxt, wakes: false },
-            Stage::Y6 { nxt } => Stage::Y7 { nxt, wakes: value == WRITER },
-            Stage::Y7 { nxt, wakes: true } => Stage::Y8 { nxt },
-            Stage::Y7 { .. } => Stage::Idle,
-            Stage::A1 { counter, amount } => Stage::A2 { counter, amount, value },
-        };
+        let after = entering(before, value).or_else(|| leaving(before, value)).unwrap_or(before);
         self.cards[card].stage = after;
         if after == Stage::Idle {
             self.cards[card] = Card::IDLE;
@@ -463,4 +467,63 @@ impl<M: Memory> Lock<M> {
             _ => Answer::Step,
         }
     }
+}
+
+/// The rows of entering: where the card goes by the memory's answer.
+fn entering(stage: Stage, value: u16) -> Option<Stage> {
+    Some(match stage {
+        Stage::W1 => Stage::W2,
+        Stage::W2 => Stage::W3 { pred: value },
+        Stage::W3 { pred: 0 } => Stage::W5 { pred: 0 },
+        Stage::W3 { pred } => Stage::W4 { pred },
+        Stage::W4 { pred } => Stage::W5 { pred },
+        Stage::W5 { pred: 0 } => Stage::Inside,
+        Stage::W5 { .. } => Stage::W6,
+        Stage::W6 if value == 0 => Stage::Inside,
+        Stage::W6 => Stage::W6,
+        Stage::R1 => Stage::R2,
+        Stage::R2 => Stage::R3 { pred: value },
+        Stage::R3 { pred: 0 } => Stage::R7 { waits: false },
+        Stage::R3 { pred } => Stage::R4 { pred },
+        Stage::R4 { pred } => Stage::R5 { pred },
+        Stage::R5 { pred } => Stage::R6 { pred },
+        Stage::R6 { .. } => Stage::R7 { waits: value != ACTIVE_READER },
+        Stage::R7 { waits: true } => Stage::R8,
+        Stage::R7 { waits: false } => Stage::R9,
+        Stage::R8 if value == 0 => Stage::R9,
+        Stage::R8 => Stage::R8,
+        Stage::R9 => Stage::R10,
+        Stage::R10 => Stage::R11,
+        Stage::R11 => Stage::R12 { nxt: value },
+        Stage::R12 { nxt: 0 } => Stage::Inside,
+        Stage::R12 { nxt } => Stage::R13 { nxt },
+        Stage::R13 { nxt } if value == READER => Stage::R14 { nxt },
+        Stage::R13 { .. } | Stage::R14 { .. } => Stage::Inside,
+        _ => return None,
+    })
+}
+
+/// The rows of leaving and adding.
+fn leaving(stage: Stage, value: u16) -> Option<Stage> {
+    Some(match stage {
+        Stage::X1 => Stage::X2,
+        Stage::X2 => Stage::X3 { nxt: value },
+        Stage::X3 { nxt } => Stage::X4 { nxt },
+        Stage::X4 { nxt: 0 } => Stage::Idle,
+        Stage::X4 { nxt } => Stage::X5 { nxt },
+        Stage::X5 { .. } | Stage::Y8 { .. } => Stage::Idle,
+        Stage::Y1 => Stage::Y2,
+        Stage::Y2 => Stage::Y3 { pred: value },
+        Stage::Y3 { pred: 0 } => Stage::Y5 { pred: 0, nxt: value },
+        Stage::Y3 { pred } => Stage::Y4 { pred, nxt: value },
+        Stage::Y4 { pred, nxt } => Stage::Y5 { pred, nxt },
+        Stage::Y5 { pred: 0, nxt } if nxt != 0 => Stage::Y6 { nxt },
+        Stage::Y5 { nxt, .. } => Stage::Y7 { nxt, wakes: false },
+        Stage::Y6 { nxt } => Stage::Y7 { nxt, wakes: value == WRITER },
+        Stage::Y7 { nxt, wakes: true } => Stage::Y8 { nxt },
+        Stage::Y7 { .. } => Stage::Idle,
+        Stage::A1 { counter, amount } => Stage::A2 { counter, amount, value },
+        Stage::A2 { .. } => Stage::Inside,
+        _ => return None,
+    })
 }

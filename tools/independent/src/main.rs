@@ -13,8 +13,8 @@ use independent::explore::{explore, Runs};
 use independent::in_place::InPlace;
 use independent::lock::Sizes;
 use independent::output::run;
-use independent::watched::Watched;
 use independent::schedule::Lines;
+use independent::watched::Watched;
 
 const USAGE: &str = "usage: independent [deferred | inplace | check] < schedule
        independent explore CARDS NODES LIMIT [tidy]";

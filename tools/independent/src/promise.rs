@@ -140,21 +140,17 @@ impl Moment<'_> {
         Ok(())
     }
 
-    /// What one open transaction has written, no other open one has marked or written; at most four of each, once each.
+    /// What one open transaction has written, no other open one has marked or written; at most four, once each.
     fn check_apart(&self) -> Result<(), String> {
-        let open = |transaction| match transaction {
-            &TransactionMeaning::Open { ref marks, ref writes } => Some((marks, writes)),
-            _ => None,
-        };
-        let transactions = || self.meaning.transactions.iter().map(open).enumerate();
-        for (card, (marks, writes)) in transactions().filter_map(|(card, open)| Some((card, open?))) {
-            let cells: Vec<usize> = writes.iter().map(|write| write.0).collect();
-            ensure(once(marks) && once(&cells) && marks.len() <= 4 && cells.len() <= 4, || {
-                format!("card {card} has too many marks or writes")
-            })?;
-            for (other, (marks, writes)) in transactions().filter_map(|(other, open)| Some((other, open?))) {
+        for (card, one) in self.meaning.transactions.iter().enumerate() {
+            let TransactionMeaning::Open { marks, writes } = one else { continue };
+            let written: Vec<usize> = writes.iter().map(|write| write.0).collect();
+            let few = marks.len() <= 4 && written.len() <= 4;
+            ensure(few && once(marks) && once(&written), || format!("card {card} has too many marks or writes"))?;
+            for (other, another) in self.meaning.transactions.iter().enumerate() {
+                let TransactionMeaning::Open { marks, writes } = another else { continue };
                 let touched = |cell: &usize| marks.contains(cell) || writes.iter().any(|write| write.0 == *cell);
-                ensure(other == card || !cells.iter().any(touched), || {
+                ensure(other == card || !written.iter().any(touched), || {
                     format!("the open transactions of cards {card} and {other} overlap")
                 })?;
             }
@@ -163,7 +159,7 @@ impl Moment<'_> {
     }
 }
 
-/// No request, step or abort changes a cell of a node that is free before and after it; a reuse only the node it names.
+/// No request, step or abort changes a cell of a node that is free before and after it; a reuse only its own node.
 pub fn check_free_nodes(
     reused: Option<usize>,
     free: impl Iterator<Item = usize>,

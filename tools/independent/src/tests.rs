@@ -9,7 +9,8 @@ use crate::output::run;
 fn memory_runs<M: Memory + Default>(text: &str) {
     let mut memory = M::default();
     for part in text.split(';') {
-        let (call, expected) = part.split_once("->").map_or((part, None), |(call, answer)| (call, Some(answer.trim())));
+        let (call, expected) =
+            part.split_once("->").map_or((part, None), |(call, answer)| (call, Some(answer.trim())));
         let words: Vec<&str> = call.split_whitespace().collect();
         let number = |k: usize| words[k].parse::<usize>().unwrap();
         let none = |()| None;
@@ -51,7 +52,8 @@ fn memory_examples() {
         "begin 0; store 1 0 4; begin 0 -> 22; commit 0 -> ok",
         "begin 0; read 0 1; store 1 1 4; load 0 2 -> 22; begin 0 -> 22; read 0 2 -> 24; load 0 2 -> 0",
         "begin 0; read 0 1; read 0 2; read 0 3; read 0 4; read 0 4 -> 0; read 0 5 -> 25; read 0 5 -> 23",
-        "begin 0; write 0 1 1; write 0 2 1; write 0 3 1; write 0 4 1; write 0 4 2 -> ok; write 0 5 1 -> 25; look 1 -> 0",
+        "begin 0; write 0 1 1; write 0 2 1; write 0 3 1; write 0 4 1; write 0 4 2 -> ok; write 0 5 1 -> 25; \
+         look 1 -> 0",
         "begin 0; write 0 1 8; read 0 2; read 0 3; read 0 4; read 0 5; read 0 1 -> 8; commit 0 -> ok; look 1 -> 8",
         "begin 0; read 0 1; store 1 1 4; read 0 200 -> 21; commit 0 -> 24",
     ];
@@ -68,7 +70,8 @@ fn no_refusal_dooms() {
         "begin 0; write 0 9 1; begin 1; read 1 1; read 1 2; read 1 3; read 1 4; read 1 9 -> 25; commit 0 -> ok",
         "begin 0; read 0 9; begin 1; store 1 9 5 -> 22; commit 0 -> ok",
         "begin 0; read 0 9; write 1 9 5 -> 23; commit 0 -> ok",
-        "begin 0; read 0 9; begin 1; write 1 1 1; write 1 2 1; write 1 3 1; write 1 4 1; write 1 9 1 -> 25; commit 0 -> ok",
+        "begin 0; read 0 9; begin 1; write 1 1 1; write 1 2 1; write 1 3 1; write 1 4 1; write 1 9 1 -> 25; \
+         commit 0 -> ok",
     ];
     for example in refused {
         memory_runs::<Deferred>(example);

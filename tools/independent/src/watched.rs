@@ -258,7 +258,7 @@ impl Watched {
     /// A drawn list of calls that holds no step of this card.
     fn others_do(&mut self, but: usize, random: &mut Random) -> Result<(), String> {
         let style = Style::draw(random);
-        let mut drawer = Drawer::new(Random::new(random.next()), style);
+        let mut drawer = Drawer::new(Random::new(random.draw()), style);
         for _ in 0..random.below(40) {
             let call = drawer.call(&self.board);
             if call != (Call::Step { card: but as u16 }) {
