@@ -5,3 +5,5 @@ pub mod Held
 pub mod Sound
 pub mod Model
 pub mod Inv
+pub mod Bridge
+pub mod Rows
