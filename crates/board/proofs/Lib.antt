@@ -7,3 +7,4 @@ pub mod Model
 pub mod Inv
 pub mod Bridge
 pub mod Rows
+pub mod Isolation

@@ -33,110 +33,110 @@ use Rattle.board.proofs.Bridge.{Below, Recorded, Ranged}
 abbrev pub Holds : Stage → List Write → List Write → Type 0
 Holds s r w = (in-tx s ≡ true) × (reads s ≡ r) × (writes s ≡ w)
 
--- what a row's call finds of its transaction, and what the stage after it holds
-abbrev pub Row : Stage → MemoryCall → Type 0
-Row s call.Clear = ⊥
-Row s (call.Look a) = ⊥
-Row s (call.Load c a) = (in-tx s ≡ false) × ((v : ℕ) → in-tx (goes s v .0) ≡ false)
-Row s (call.Store c a x) = (in-tx s ≡ false) × ((v : ℕ) → in-tx (goes s v .0) ≡ false)
-Row s (call.Begin c) = (in-tx s ≡ false) × ((v : ℕ) → Holds (goes s v .0) [] [])
-Row s (call.Read c a) =
-  (in-tx s ≡ true) × (value-in (writes s) a ≡ None)
+-- the call of a row of card c: what it finds of the card's transaction, and what the stage after it holds
+abbrev pub Row : ℕ → Stage → MemoryCall → Type 0
+Row c s call.Clear = ⊥
+Row c s (call.Look a) = ⊥
+Row c s (call.Load d a) = (d ≡ c) × (in-tx s ≡ false) × ((v : ℕ) → in-tx (goes s v .0) ≡ false)
+Row c s (call.Store d a x) = (d ≡ c) × (in-tx s ≡ false) × ((v : ℕ) → in-tx (goes s v .0) ≡ false)
+Row c s (call.Begin d) = (d ≡ c) × (in-tx s ≡ false) × ((v : ℕ) → Holds (goes s v .0) [] [])
+Row c s (call.Read d a) =
+  (d ≡ c) × (in-tx s ≡ true) × (value-in (writes s) a ≡ None)
   × (marking (cells (reads s)) a ≡ Some (cells (reads s) ++ a ∷ []))
   × ((v : ℕ) → Holds (goes s v .0) (reads s ++ mk a v ∷ []) (writes s))
-Row s (call.Write c a x) =
-  (in-tx s ≡ true) × (recording (writes s) a x ≡ Some (writes s ++ mk a x ∷ []))
+Row c s (call.Write d a x) =
+  (d ≡ c) × (in-tx s ≡ true) × (recording (writes s) a x ≡ Some (writes s ++ mk a x ∷ []))
   × ((v : ℕ) → Holds (goes s v .0) (reads s) (writes s ++ mk a x ∷ []))
-Row s (call.Commit c) = (in-tx s ≡ true) × ((v : ℕ) → in-tx (goes s v .0) ≡ false)
-Row s (call.Drop c) = ⊥
+Row c s (call.Commit d) = (d ≡ c) × (in-tx s ≡ true) × ((v : ℕ) → in-tx (goes s v .0) ≡ false)
+Row c s (call.Drop d) = ⊥
 
 -- a stage without a call is outside of a transaction
-abbrev RowOf : Stage → Option MemoryCall → Type 0
-RowOf s None = in-tx s ≡ false
-RowOf s (Some k) = Row s k
+abbrev RowOf : ℕ → Stage → Option MemoryCall → Type 0
+RowOf c s None = in-tx s ≡ false
+RowOf c s (Some k) = Row c s k
 
-row-of : (N K c : ℕ) (s : Stage) → Sound N K s → RowOf s (call-of N c s)
+row-of : (N K c : ℕ) (s : Stage) → Sound N K s → RowOf c s (call-of N c s)
 row-of N K c Idle h = refl
-row-of N K c (WriterEnters n W1) h = (refl, λ v. (refl, refl, refl))
-row-of N K c (WriterEnters n W2) h = (refl, refl, refl, λ v. (refl, refl, refl))
-row-of N K c (WriterEnters n (W3 zero)) h = (refl, refl, λ v. (refl, refl, refl))
-row-of N K c (WriterEnters n (W3 (suc m))) h = (refl, refl, λ v. (refl, refl, refl))
+row-of N K c (WriterEnters n W1) h = (refl, refl, λ v. (refl, refl, refl))
+row-of N K c (WriterEnters n W2) h = (refl, refl, refl, refl, λ v. (refl, refl, refl))
+row-of N K c (WriterEnters n (W3 zero)) h = (refl, refl, refl, λ v. (refl, refl, refl))
+row-of N K c (WriterEnters n (W3 (suc m))) h = (refl, refl, refl, λ v. (refl, refl, refl))
 row-of N K c (WriterEnters n (W4 zero)) h = absurd (h .1)
-row-of N K c (WriterEnters n (W4 (suc m))) h = (refl, grind (arith, tells), λ v. (refl, refl, refl))
-row-of N K c (WriterEnters n (W5 zero)) h = (refl, λ v. refl)
-row-of N K c (WriterEnters n (W5 (suc m))) h = (refl, λ v. refl)
-row-of N K c (WriterEnters n W6) h = (refl, elim [ zero ↦ refl | suc v ↦ refl ])
-row-of N K c (ReaderEnters n R1) h = (refl, λ v. (refl, refl, refl))
-row-of N K c (ReaderEnters n R2) h = (refl, refl, refl, λ v. (refl, refl, refl))
-row-of N K c (ReaderEnters n (R3 zero)) h = (refl, refl, λ v. (refl, refl, refl))
-row-of N K c (ReaderEnters n (R3 (suc m))) h = (refl, refl, λ v. (refl, refl, refl))
-row-of N K c (ReaderEnters n (R4 p)) h = (refl, grind (arith, tells), λ v. (refl, refl, refl))
+row-of N K c (WriterEnters n (W4 (suc m))) h = (refl, refl, grind (arith, tells), λ v. (refl, refl, refl))
+row-of N K c (WriterEnters n (W5 zero)) h = (refl, refl, λ v. refl)
+row-of N K c (WriterEnters n (W5 (suc m))) h = (refl, refl, λ v. refl)
+row-of N K c (WriterEnters n W6) h = (refl, refl, elim [ zero ↦ refl | suc v ↦ refl ])
+row-of N K c (ReaderEnters n R1) h = (refl, refl, λ v. (refl, refl, refl))
+row-of N K c (ReaderEnters n R2) h = (refl, refl, refl, refl, λ v. (refl, refl, refl))
+row-of N K c (ReaderEnters n (R3 zero)) h = (refl, refl, refl, λ v. (refl, refl, refl))
+row-of N K c (ReaderEnters n (R3 (suc m))) h = (refl, refl, refl, λ v. (refl, refl, refl))
+row-of N K c (ReaderEnters n (R4 p)) h = (refl, refl, grind (arith, tells), λ v. (refl, refl, refl))
 row-of N K c (ReaderEnters n (R5 zero)) h = absurd (h .1)
-row-of N K c (ReaderEnters n (R5 (suc m))) h = (refl, grind (arith, tells), λ v. (refl, refl, refl))
+row-of N K c (ReaderEnters n (R5 (suc m))) h = (refl, refl, grind (arith, tells), λ v. (refl, refl, refl))
 row-of N K c (ReaderEnters n (R6 zero)) h = absurd (h .1)
-row-of N K c (ReaderEnters n (R6 (suc m))) h = (refl, grind (arith, tells), grind (arith, tells), λ v. (refl, refl, refl))
-row-of N K c (ReaderEnters n (R7 zero s)) h = (refl, λ v. refl)
-row-of N K c (ReaderEnters n (R7 (suc m) s)) h = (refl, λ v. grind (arith, tells))
-row-of N K c (ReaderEnters n R8) h = (refl, elim [ zero ↦ refl | suc v ↦ refl ])
-row-of N K c (ReaderEnters n R9) h = (refl, λ v. (refl, refl, refl))
-row-of N K c (ReaderEnters n R10) h = (refl, refl, λ v. (refl, refl, refl))
-row-of N K c (ReaderEnters n R11) h = (refl, grind (arith, tells), refl, λ v. (refl, refl, refl))
-row-of N K c (ReaderEnters n (R12 zero)) h = (refl, λ v. refl)
-row-of N K c (ReaderEnters n (R12 (suc m))) h = (refl, λ v. refl)
+row-of N K c (ReaderEnters n (R6 (suc m))) h = (refl, refl, grind (arith, tells), grind (arith, tells), λ v. (refl, refl, refl))
+row-of N K c (ReaderEnters n (R7 zero s)) h = (refl, refl, λ v. refl)
+row-of N K c (ReaderEnters n (R7 (suc m) s)) h = (refl, refl, λ v. grind (arith, tells))
+row-of N K c (ReaderEnters n R8) h = (refl, refl, elim [ zero ↦ refl | suc v ↦ refl ])
+row-of N K c (ReaderEnters n R9) h = (refl, refl, λ v. (refl, refl, refl))
+row-of N K c (ReaderEnters n R10) h = (refl, refl, refl, λ v. (refl, refl, refl))
+row-of N K c (ReaderEnters n R11) h = (refl, refl, grind (arith, tells), refl, λ v. (refl, refl, refl))
+row-of N K c (ReaderEnters n (R12 zero)) h = (refl, refl, λ v. refl)
+row-of N K c (ReaderEnters n (R12 (suc m))) h = (refl, refl, λ v. refl)
 row-of N K c (ReaderEnters n (R13 zero)) h = absurd (h .1)
-row-of N K c (ReaderEnters n (R13 (suc m))) h = (refl, λ v. grind (arith, tells))
+row-of N K c (ReaderEnters n (R13 (suc m))) h = (refl, refl, λ v. grind (arith, tells))
 row-of N K c (ReaderEnters n (R14 zero)) h = absurd (h .1)
-row-of N K c (ReaderEnters n (R14 (suc m))) h = (refl, λ v. refl)
+row-of N K c (ReaderEnters n (R14 (suc m))) h = (refl, refl, λ v. refl)
 row-of N K c (Inside n mode.Write) h = refl
 row-of N K c (Inside n mode.Read) h = refl
-row-of N K c (WriterLeaves n X1) h = (refl, λ v. (refl, refl, refl))
-row-of N K c (WriterLeaves n X2) h = (refl, refl, refl, λ v. (refl, refl, refl))
-row-of N K c (WriterLeaves n (X3 zero)) h = (refl, refl, λ v. (refl, refl, refl))
-row-of N K c (WriterLeaves n (X3 (suc m))) h = (refl, refl, λ v. (refl, refl, refl))
-row-of N K c (WriterLeaves n (X4 zero)) h = (refl, λ v. refl)
-row-of N K c (WriterLeaves n (X4 (suc m))) h = (refl, λ v. refl)
+row-of N K c (WriterLeaves n X1) h = (refl, refl, λ v. (refl, refl, refl))
+row-of N K c (WriterLeaves n X2) h = (refl, refl, refl, refl, λ v. (refl, refl, refl))
+row-of N K c (WriterLeaves n (X3 zero)) h = (refl, refl, refl, λ v. (refl, refl, refl))
+row-of N K c (WriterLeaves n (X3 (suc m))) h = (refl, refl, refl, λ v. (refl, refl, refl))
+row-of N K c (WriterLeaves n (X4 zero)) h = (refl, refl, λ v. refl)
+row-of N K c (WriterLeaves n (X4 (suc m))) h = (refl, refl, λ v. refl)
 row-of N K c (WriterLeaves n (X5 zero)) h = absurd (h .1)
-row-of N K c (WriterLeaves n (X5 (suc m))) h = (refl, λ v. refl)
-row-of N K c (ReaderLeaves n Y1) h = (refl, λ v. (refl, refl, refl))
-row-of N K c (ReaderLeaves n Y2) h = (refl, refl, refl, λ v. (refl, refl, refl))
-row-of N K c (ReaderLeaves n (Y3 zero)) h = (refl, refl, grind (arith, tells), λ v. (refl, refl, refl))
-row-of N K c (ReaderLeaves n (Y3 (suc m))) h = (refl, refl, grind (arith, tells), λ v. (refl, refl, refl))
+row-of N K c (WriterLeaves n (X5 (suc m))) h = (refl, refl, λ v. refl)
+row-of N K c (ReaderLeaves n Y1) h = (refl, refl, λ v. (refl, refl, refl))
+row-of N K c (ReaderLeaves n Y2) h = (refl, refl, refl, refl, λ v. (refl, refl, refl))
+row-of N K c (ReaderLeaves n (Y3 zero)) h = (refl, refl, refl, grind (arith, tells), λ v. (refl, refl, refl))
+row-of N K c (ReaderLeaves n (Y3 (suc m))) h = (refl, refl, refl, grind (arith, tells), λ v. (refl, refl, refl))
 row-of N K c (ReaderLeaves n (Y4 zero q)) h = absurd (h .1)
-row-of N K c (ReaderLeaves n (Y4 (suc m) q)) h = (refl, refl, λ v. (refl, refl, refl))
-row-of N K c (ReaderLeaves n (Y5 zero zero)) h = (refl, refl, λ v. (refl, refl, refl))
-row-of N K c (ReaderLeaves n (Y5 (suc m) zero)) h = (refl, grind (arith, tells), λ v. (refl, refl, refl))
-row-of N K c (ReaderLeaves n (Y5 zero (suc k))) h = (refl, refl, λ v. (refl, refl, refl))
-row-of N K c (ReaderLeaves n (Y5 (suc m) (suc k))) h = (refl, grind (arith, tells), λ v. (refl, refl, refl))
+row-of N K c (ReaderLeaves n (Y4 (suc m) q)) h = (refl, refl, refl, λ v. (refl, refl, refl))
+row-of N K c (ReaderLeaves n (Y5 zero zero)) h = (refl, refl, refl, λ v. (refl, refl, refl))
+row-of N K c (ReaderLeaves n (Y5 (suc m) zero)) h = (refl, refl, grind (arith, tells), λ v. (refl, refl, refl))
+row-of N K c (ReaderLeaves n (Y5 zero (suc k))) h = (refl, refl, refl, λ v. (refl, refl, refl))
+row-of N K c (ReaderLeaves n (Y5 (suc m) (suc k))) h = (refl, refl, grind (arith, tells), λ v. (refl, refl, refl))
 row-of N K c (ReaderLeaves n (Y6 zero zero)) h = absurd (h .2)
-row-of N K c (ReaderLeaves n (Y6 zero (suc k))) h = (refl, grind (arith, tells), grind (arith, tells), λ v. (refl, refl, refl))
+row-of N K c (ReaderLeaves n (Y6 zero (suc k))) h = (refl, refl, grind (arith, tells), grind (arith, tells), λ v. (refl, refl, refl))
 row-of N K c (ReaderLeaves n (Y6 (suc m) q)) h = let e = h .1 in absurd (omega arith)
-row-of N K c (ReaderLeaves n (Y7 p zero s)) h = (refl, λ v. refl)
-row-of N K c (ReaderLeaves n (Y7 zero (suc k) s)) h = (refl, λ v. grind (arith, tells))
-row-of N K c (ReaderLeaves n (Y7 (suc m) (suc k) s)) h = (refl, λ v. refl)
+row-of N K c (ReaderLeaves n (Y7 p zero s)) h = (refl, refl, λ v. refl)
+row-of N K c (ReaderLeaves n (Y7 zero (suc k) s)) h = (refl, refl, λ v. grind (arith, tells))
+row-of N K c (ReaderLeaves n (Y7 (suc m) (suc k) s)) h = (refl, refl, λ v. refl)
 row-of N K c (ReaderLeaves n (Y8 zero)) h = absurd (h .1)
-row-of N K c (ReaderLeaves n (Y8 (suc m))) h = (refl, λ v. refl)
-row-of N K c (Adds n (A1 k x)) h = (refl, λ v. refl)
-row-of N K c (Adds n (A2 k x u)) h = (refl, λ v. refl)
+row-of N K c (ReaderLeaves n (Y8 (suc m))) h = (refl, refl, λ v. refl)
+row-of N K c (Adds n (A1 k x)) h = (refl, refl, λ v. refl)
+row-of N K c (Adds n (A2 k x u)) h = (refl, refl, λ v. refl)
 
 -- each row of the table
-pub row : (N K c : ℕ) (s : Stage) → Sound N K s → (k : MemoryCall) → call-of N c s ≡ Some k → Row s k
-row N K c s h k e = subst (RowOf s) e (row-of N K c s h)
+pub row : (N K c : ℕ) (s : Stage) → Sound N K s → (k : MemoryCall) → call-of N c s ≡ Some k → Row c s k
+row N K c s h k e = subst (RowOf c s) e (row-of N K c s h)
 
 -- a stage without a call is outside of a transaction
 pub silent : (N K c : ℕ) (s : Stage) → Sound N K s → call-of N c s ≡ None → in-tx s ≡ false
-silent N K c s h e = subst (RowOf s) e (row-of N K c s h)
+silent N K c s h e = subst (RowOf c s) e (row-of N K c s h)
 
 -- a row's call goes by a transaction just where its stage is inside of one
-pub row-inside : (s : Stage) (k : MemoryCall) → Row s k → in-transaction k ≡ in-tx s
-row-inside s call.Clear r = absurd r
-row-inside s (call.Look a) r = absurd r
-row-inside s (call.Load c a) r = sym (r .0)
-row-inside s (call.Store c a x) r = sym (r .0)
-row-inside s (call.Begin c) r = sym (r .0)
-row-inside s (call.Read c a) r = sym (r .0)
-row-inside s (call.Write c a x) r = sym (r .0)
-row-inside s (call.Commit c) r = sym (r .0)
-row-inside s (call.Drop c) r = absurd r
+pub row-inside : (c : ℕ) (s : Stage) (k : MemoryCall) → Row c s k → in-transaction k ≡ in-tx s
+row-inside c s call.Clear r = absurd r
+row-inside c s (call.Look a) r = absurd r
+row-inside c s (call.Load d a) r = sym (r .1)
+row-inside c s (call.Store d a x) r = sym (r .1)
+row-inside c s (call.Begin d) r = sym (r .1)
+row-inside c s (call.Read d a) r = sym (r .1)
+row-inside c s (call.Write d a x) r = sym (r .1)
+row-inside c s (call.Commit d) r = sym (r .1)
+row-inside c s (call.Drop d) r = absurd r
 
 -- the begin of a transaction is outside of it
 pub begin-outside : (s : Stage) → in-tx (begin-of s) ≡ false
