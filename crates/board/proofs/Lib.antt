@@ -8,3 +8,4 @@ pub mod Inv
 pub mod Bridge
 pub mod Rows
 pub mod Isolation
+pub mod Sounds
