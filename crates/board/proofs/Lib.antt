@@ -9,3 +9,4 @@ pub mod Bridge
 pub mod Rows
 pub mod Isolation
 pub mod Sounds
+pub mod Counts
