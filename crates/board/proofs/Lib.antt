@@ -5,3 +5,8 @@ pub mod Held
 pub mod Sound
 pub mod Model
 pub mod Inv
+pub mod Bridge
+pub mod Rows
+pub mod Isolation
+pub mod Sounds
+pub mod Counts
