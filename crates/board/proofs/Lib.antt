@@ -5,3 +5,6 @@ pub mod Held
 pub mod Sound
 pub mod Model
 pub mod Inv
+pub mod Moves
+pub mod Join
+pub mod Leave
