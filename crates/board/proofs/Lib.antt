@@ -8,3 +8,6 @@ pub mod Inv
 pub mod Moves
 pub mod Join
 pub mod Leave
+pub mod Links
+pub mod Commits
+pub mod Steps
