@@ -11,3 +11,4 @@ pub mod Leave
 pub mod Links
 pub mod Commits
 pub mod Steps
+pub mod Effects
