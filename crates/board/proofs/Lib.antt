@@ -12,3 +12,5 @@ pub mod Links
 pub mod Commits
 pub mod Steps
 pub mod Effects
+pub mod Frames
+pub mod Seats
