@@ -5,3 +5,4 @@ pub mod Held
 pub mod Sound
 pub mod Model
 pub mod Inv
+pub mod Stands
