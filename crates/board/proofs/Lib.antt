@@ -6,3 +6,6 @@ pub mod Sound
 pub mod Model
 pub mod Inv
 pub mod Stands
+pub mod Lists
+pub mod Turns
+pub mod Laws
