@@ -9,3 +9,4 @@ pub mod Stands
 pub mod Lists
 pub mod Turns
 pub mod Laws
+pub mod Walks
