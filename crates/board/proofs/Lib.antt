@@ -10,3 +10,7 @@ pub mod Lists
 pub mod Turns
 pub mod Laws
 pub mod Walks
+pub mod Bridge
+pub mod Rows
+pub mod Isolation
+pub mod Sounds
