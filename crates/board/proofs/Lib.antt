@@ -14,3 +14,12 @@ pub mod Bridge
 pub mod Rows
 pub mod Isolation
 pub mod Sounds
+pub mod Moves
+pub mod Join
+pub mod Leave
+pub mod Links
+pub mod Commits
+pub mod Steps
+pub mod Effects
+pub mod Frames
+pub mod Seats
