@@ -5,11 +5,6 @@ pub mod Held
 pub mod Sound
 pub mod Model
 pub mod Inv
-pub mod Stands
-pub mod Lists
-pub mod Turns
-pub mod Laws
-pub mod Walks
 pub mod Bridge
 pub mod Rows
 pub mod Isolation
@@ -23,3 +18,8 @@ pub mod Steps
 pub mod Effects
 pub mod Frames
 pub mod Seats
+pub mod Lists
+pub mod Turns
+pub mod Stands
+pub mod Laws
+pub mod Walks

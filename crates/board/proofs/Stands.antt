@@ -21,22 +21,10 @@ use Rattle.board.proofs.Views.{View, away, comesW, comesR, waitsW, waitsR, hol
 use Rattle.board.proofs.Views.{view, node, link, joined, reader, active, granted, Cells}
 use Rattle.board.proofs.Chain.{Spot, End, Chain, In, Once, Line, chain-pred}
 use Rattle.board.proofs.Inv.{cards-of, reads-mode, Seated, Inv}
+use Rattle.board.proofs.Moves.{joined-link}
+use Rattle.board.proofs.Join.{active-state}
 
 -- Of one view.
-
--- a card in line has a node
-pub joined-link : (v : View) → joined v ≡ true → link v ≡ suc (node v)
-joined-link away h = cc
-joined-link (comesW n) h = refl
-joined-link (comesR n) h = refl
-joined-link (waitsW n) h = refl
-joined-link (waitsR n) h = refl
-joined-link (holdsW n) h = refl
-joined-link (turnR n) h = refl
-joined-link (activeR n) h = refl
-joined-link (seesR n q) h = refl
-joined-link (wakesR n q) h = refl
-joined-link (hands n q) h = refl
 
 -- the node that a link names
 pub node-is : (v : View) (m : ℕ) → link v ≡ suc m → node v ≡ m
@@ -51,21 +39,6 @@ node-is (activeR n) m e = omega arith
 node-is (seesR n q) m e = omega arith
 node-is (wakesR n q) m e = omega arith
 node-is (hands n q) m e = omega arith
-
--- a card in line is an active reader just where its state stands at 3
-pub active-state : (f : ℕ → ℕ) (v : View) → joined v ≡ true → Cells f v
-    → (active v ≡ true → f (state (node v)) ≡ 3) × (f (state (node v)) ≡ 3 → active v ≡ true)
-active-state f away j k = clash false j refl
-active-state f (comesW n) j k = clash false j refl
-active-state f (comesR n) j k = clash false j refl
-active-state f (waitsW n) j k = (λ a. clash false a refl, λ e. absurd (omega arith))
-active-state f (waitsR n) j k = (λ a. clash false a refl, λ e. absurd (omega arith))
-active-state f (holdsW n) j k = (λ a. clash false a refl, λ e. absurd (omega arith))
-active-state f (turnR n) j k = (λ a. clash false a refl, λ e. absurd (omega arith))
-active-state f (activeR n) j k = (λ _. k, λ _. refl)
-active-state f (seesR n q) j k = (λ _. k, λ _. refl)
-active-state f (wakesR n q) j k = (λ _. k, λ _. refl)
-active-state f (hands n q) j k = clash false j refl
 
 -- an active reader is a reader, and it is let in
 pub active-is : (f : ℕ → ℕ) (v : View) → active v ≡ true → (reader v ≡ true) × (granted f v ≡ true)

@@ -29,10 +29,11 @@ use Rattle.board.specs.Promise.{Within}
 use Rattle.board.proofs.Cells.{clash, next}
 use Rattle.board.proofs.Views.{View, view, node, link, joined}
 use Rattle.board.proofs.Chain.{Spot, End, Chain, In, Once, Line, chain-pred, chain-behind, chain-joined}
-use Rattle.board.proofs.Sound.{Sound}
 use Rattle.board.proofs.Inv.{cards-of, Seated, Inv}
 use Rattle.board.proofs.Lists.{once-few}
-use Rattle.board.proofs.Stands.{joined-link, node-is}
+use Rattle.board.proofs.Links.{sound-link}
+use Rattle.board.proofs.Moves.{joined-link}
+use Rattle.board.proofs.Stands.{node-is}
 
 -- Tables of the stages.
 
@@ -76,47 +77,6 @@ line-link-view (ReaderLeaves n (Y5 p t)) = refl
 line-link-view (ReaderLeaves n (Y6 p t)) = refl
 line-link-view (ReaderLeaves n (Y7 p t s)) = refl
 line-link-view (ReaderLeaves n (Y8 t)) = refl
-
--- a stage's node is one of the board's
-pub link-below : (N K : ℕ) (g : Stage) → Sound N K g → link (view g) ≤ N
-link-below N K Idle h = omega arith
-link-below N K (WriterEnters n W1) h = omega arith
-link-below N K (WriterEnters n W2) h = omega arith
-link-below N K (WriterEnters n (W3 p)) h = let k = h .0 in omega arith
-link-below N K (WriterEnters n (W4 p)) h = let k = h .0 in omega arith
-link-below N K (WriterEnters n (W5 p)) h = let k = h .0 in omega arith
-link-below N K (WriterEnters n W6) h = omega arith
-link-below N K (ReaderEnters n R1) h = omega arith
-link-below N K (ReaderEnters n R2) h = omega arith
-link-below N K (ReaderEnters n (R3 p)) h = let k = h .0 in omega arith
-link-below N K (ReaderEnters n (R4 p)) h = let k = h .0 in omega arith
-link-below N K (ReaderEnters n (R5 p)) h = let k = h .0 in omega arith
-link-below N K (ReaderEnters n (R6 p)) h = let k = h .0 in omega arith
-link-below N K (ReaderEnters n (R7 p s)) h = let k = h .0 in omega arith
-link-below N K (ReaderEnters n R8) h = omega arith
-link-below N K (ReaderEnters n R9) h = omega arith
-link-below N K (ReaderEnters n R10) h = omega arith
-link-below N K (ReaderEnters n R11) h = omega arith
-link-below N K (ReaderEnters n (R12 t)) h = let k = h .0 in omega arith
-link-below N K (ReaderEnters n (R13 t)) h = let k = h .0 in omega arith
-link-below N K (ReaderEnters n (R14 t)) h = let k = h .0 in omega arith
-link-below N K (Inside n Write) h = omega arith
-link-below N K (Inside n Read) h = omega arith
-link-below N K (Adds n (A1 i a)) h = let k = h .0 in omega arith
-link-below N K (Adds n (A2 i a v)) h = let k = h .0 in omega arith
-link-below N K (WriterLeaves n X1) h = omega arith
-link-below N K (WriterLeaves n X2) h = omega arith
-link-below N K (WriterLeaves n (X3 t)) h = let k = h .0 in omega arith
-link-below N K (WriterLeaves n (X4 t)) h = let k = h .0 in omega arith
-link-below N K (WriterLeaves n (X5 t)) h = let k = h .0 in omega arith
-link-below N K (ReaderLeaves n Y1) h = omega arith
-link-below N K (ReaderLeaves n Y2) h = omega arith
-link-below N K (ReaderLeaves n (Y3 p)) h = let k = h .0 in omega arith
-link-below N K (ReaderLeaves n (Y4 p t)) h = let k = h .0 in omega arith
-link-below N K (ReaderLeaves n (Y5 p t)) h = let k = h .0 in omega arith
-link-below N K (ReaderLeaves n (Y6 p t)) h = let k = h .0 in omega arith
-link-below N K (ReaderLeaves n (Y7 p t s)) h = let k = h .0 in omega arith
-link-below N K (ReaderLeaves n (Y8 t)) h = let k = h .0 in omega arith
 
 -- The cards that point at a link, and the one that leads.
 
@@ -198,7 +158,7 @@ module _ (z : Size) (W : Within z) (b : Book) (I : Inv z b) where
     (λ le. clash (joined (V c)) j (ap (λ (g : Stage). joined (view g)) (I .kept .absent c le))) (cases-lt c (z .cards))
 
   node-there : (c n : ℕ) → link (V c) ≡ suc n → n < z .nodes
-  node-there c n e = let k = link-below (z .nodes) (z .counters) (S c) (I .kept .sound c) in omega arith
+  node-there c n e = let k = sound-link (z .nodes) (z .counters) (S c) (I .kept .sound c) in omega arith
 
   in-records : (c : ℕ) → c < z .cards → c < length R
   in-records c lt = let w = W .cards in let k = I .kept .cards in omega arith
