@@ -19,3 +19,8 @@ pub mod Steps
 pub mod Effects
 pub mod Frames
 pub mod Seats
+pub mod Lists
+pub mod Turns
+pub mod Stands
+pub mod Laws
+pub mod Walks
