@@ -1,4 +1,5 @@
--- The counters: each holds the smaller of 65,535 and the sum of its finished adds, and only an add's store changes one.
+-- The counters: each holds the smaller of 65,535 and the sum of its finished adds, and only the store of an add
+-- changes one of them.
 use mathlib.Core.Path.{_≡_, refl, sym, subst, _∙_, ap}
 use mathlib.Core.Bool.{Bool, true, false, cond}
 use mathlib.Core.List.{List, [], _∷_, _++_}
@@ -11,14 +12,13 @@ use Rattle.std.specs.declared.option.Option.{Option}
 use Rattle.std.specs.declared.option.Option.the-variants.{Some, None}
 use Rattle.std.specs.declared.result.Result.{Result}
 use Rattle.std.specs.declared.result.Result.the-variants.{Ok, Err}
-use Rattle.memory.specs.declared.access.Access.the-variants.{Reads, Writes}
 use Rattle.memory.specs.declared.write.Write.{Write}
 use Rattle.memory.specs.declared.fault.MemoryFault.{MemoryFault}
 use Rattle.memory.specs.declared.fault.Refusal.{Refusal}
 use Rattle.memory.specs.declared.fault.Refusal.the-variants.{OutOfRange, Already, NoTransaction, Doomed, Full}
 use Rattle.memory.specs.declared.call.MemoryCall.{MemoryCall}
 use Rattle.memory.specs.declared.call.MemoryCall.the-variants as call
-use Rattle.memory.specs.Meaning.{Tx, none, live, doomed, wrote, value-in, marking, recording, struck}
+use Rattle.memory.specs.Meaning.{Tx, none, live, doomed, value-in, marking, recording}
 use Rattle.stages.specs.declared.stage.Mode.the-variants as mode
 use Rattle.stages.specs.declared.stage.WriterEntry.the-variants.{W1, W2, W3, W4, W5, W6}
 use Rattle.stages.specs.declared.stage.ReaderEntry.the-variants.{R1, R2, R3, R4, R5, R6, R7}
@@ -31,24 +31,26 @@ use Rattle.stages.specs.declared.stage.Stage.the-variants.{Idle, WriterEnters, 
 use Rattle.stages.specs.declared.stage.Stage.the-variants.{WriterLeaves, ReaderLeaves}
 use Rattle.stages.specs.declared.answer.Answer.{Answer}
 use Rattle.stages.specs.declared.answer.Answer.the-variants as answer
-use Rattle.stages.specs.Layout.{counter-cell, reader, writer, active}
+use Rattle.stages.specs.Layout.{counter-cell, reader, writer}
 use Rattle.stages.specs.Rows.{call-of, begin-of, capped}
 use Rattle.lock.specs.Lock.{Size, goes, returns-by, advanced}
-use Rattle.board.specs.Book.{Sum, Deed, plain, joins, parts, finishes, deed, summed, accepted}
+use Rattle.board.specs.Book.{Sum, plain, finishes, deed, summed, accepted}
 use Rattle.board.specs.Promise.{total}
 use Rattle.board.proofs.Cells.{at, at-same, at-other, at-all, clash}
-use Rattle.board.proofs.Views.{View, view, away, comesW, comesR, waitsW, waitsR, holdsW, turnR, activeR, seesR, wakesR, hands}
+use Rattle.board.proofs.Views.{View, view, away, comesW, comesR, waitsW, waitsR, holdsW, turnR, activeR, seesR}
+use Rattle.board.proofs.Views.{wakesR, hands}
 use Rattle.board.proofs.Views.{link, joined, granted}
 use Rattle.board.proofs.Views as views
-use Rattle.board.proofs.Chain.{Line, Chain, Spot, In, chain-pred}
+use Rattle.board.proofs.Chain.{Line, Chain, In, chain-pred}
 use Rattle.board.proofs.Held.{writes, in-tx, Agrees}
 use Rattle.board.proofs.Sound.{Sound}
 use Rattle.board.proofs.Model as model
-use Rattle.board.proofs.Model.{out, lands, seen, seen-on}
+use Rattle.board.proofs.Model.{lands, seen, seen-on}
 use Rattle.board.proofs.Inv.{Counted}
 use Rattle.board.proofs.Bridge.{Below}
-use Rattle.board.proofs.Rows.{Row, row, writes-below}
-use Rattle.board.proofs.Isolation.{outside, lands-other}
+use Rattle.board.proofs.Rows.{Row, row, writes-below, one-call}
+use Rattle.board.proofs.Sounds.{one-value}
+use Rattle.board.proofs.Isolation.{outside}
 
 -- whether the stage is about to store an add
 abbrev pub finishing : Stage → Bool
@@ -61,7 +63,7 @@ finishing (Adds n (A2 k a v)) = true
 finishing (WriterLeaves n at) = false
 finishing (ReaderLeaves n at) = false
 
--- such a stage keeps the standing count
+-- where it is, it keeps the standing count
 abbrev Keeps : ℕ → (ℕ → ℕ) → Stage → Type 0
 Keeps N f Idle = Unit {0}
 Keeps N f (WriterEnters n at) = Unit {0}
@@ -72,8 +74,11 @@ Keeps N f (Adds n (A2 k a v)) = v ≡ f (counter-cell N k)
 Keeps N f (WriterLeaves n at) = Unit {0}
 Keeps N f (ReaderLeaves n at) = Unit {0}
 
-loaded-keeps : (N : ℕ) (f : ℕ → ℕ) (s : Stage) → Keeps N f s
-    → (n k a v : ℕ) → s ≡ Adds n (A2 k a v) → v ≡ f (counter-cell N k)
+-- the same, said of every stage
+abbrev Loads : ℕ → (ℕ → ℕ) → Stage → Type 0
+Loads N f s = (n k a v : ℕ) → s ≡ Adds n (A2 k a v) → v ≡ f (counter-cell N k)
+
+loaded-keeps : (N : ℕ) (f : ℕ → ℕ) (s : Stage) → Keeps N f s → Loads N f s
 loaded-keeps N f s h n k a v e = subst (Keeps N f) e h
 
 -- a stage that is not about to store an add keeps no count
@@ -178,6 +183,7 @@ calm-row N K c (ReaderLeaves n (Y8 (suc m))) h e = let i = h .1 in (λ d l. refl
 calm-row N K c (Adds n (A1 k x)) h e = (λ d l. refl, tt)
 calm-row N K c (Adds n (A2 k x v)) h e = clash true refl e
 
+-- one of two stages that keep what they should
 keeps-cond : (N : ℕ) (f : ℕ → ℕ) (b : Bool) (x y : Stage × Answer) → Keeps N f (x .0) → Keeps N f (y .0)
     → Keeps N f (cond b x y .0)
 keeps-cond N f true x y h k = h
@@ -246,7 +252,7 @@ lands-above b (e ∷ w) h f a l =
   lands-above b w (h .1) (at f (e .cell) (e .value)) a l
   ∙ at-other f (e .cell) (e .value) a (λ q. let i = h .0 in omega arith)
 
--- no standing value changes by a read or a write
+-- no standing value changes by a read
 value-cell : (c a : ℕ) (f : ℕ → ℕ) (t : ℕ → Tx) (r : List ℕ) (w : List Write) (o : Option ℕ)
     → model.value-seen c a f t r w o .cell ≡ f
 value-cell c a f t r w (Some v) = refl
@@ -256,6 +262,7 @@ value-cell c a f t r w None = go (marking r a)
     go (Some m) = refl
     go None = refl
 
+-- nor by a write
 record-cell : (c a : ℕ) (f : ℕ → ℕ) (t : ℕ → Tx) (r : List ℕ) (o : Option (List Write))
     → model.record-seen c a f t r o .cell ≡ f
 record-cell c a f t r (Some w) = refl
@@ -321,7 +328,8 @@ one-holds f V l L c d n m e h = go l (L .chain) (L .members c (ap joined e)) (L 
       ∙ sym (holds-first f V x l k c i (ap views.reader e) (ap (granted f) e))
 
 -- the sum with one more add
-total-push : (k : ℕ) (l : List Sum) (s : Sum) → total k (l ++ s ∷ []) ≡ total k l + cond (eqb (s .counter) k) (s .amount) 0
+total-push : (k : ℕ) (l : List Sum) (s : Sum)
+    → total k (l ++ s ∷ []) ≡ total k l + cond (eqb (s .counter) k) (s .amount) 0
 total-push k [] s = omega arith
 total-push k (x ∷ l) s = let ih = total-push k l s in omega arith
 
@@ -345,110 +353,118 @@ pub counted-stage : (z : Size) (f : ℕ → ℕ) (S : ℕ → Stage) (l : List S
     → Counted z f S l → Counted z f (at S c s) l
 counted-stage z f S l c s h J = record
   { counts = J .counts
-  ; loaded = at-all (λ (d : ℕ) (s : Stage). (n k a v : ℕ) → s ≡ Adds n (A2 k a v) → v ≡ f (counter-cell (z .nodes) k))
-      S c s (loaded-keeps (z .nodes) f s (calm-keeps (z .nodes) f s h)) (λ d _. J .loaded d) }
+  ; loaded = at-all (λ (d : ℕ) (s : Stage). Loads (z .nodes) f s) S c s
+      (loaded-keeps (z .nodes) f s (calm-keeps (z .nodes) f s h)) (λ d _. J .loaded d) }
 
 -- A step of card c.
+
+-- what a load answers stands in its cell
+load-stands : (c a v : ℕ) (f : ℕ → ℕ) (t : ℕ → Tx) (x : Tx)
+    → model.load-seen c a f t x .answer ≡ Ok v → v ≡ model.load-seen c a f t x .cell a
+load-stands c a v f t none q = one-value (Ok (f a)) v (f a) q refl
+load-stands c a v f t (live r w) q = cc
+load-stands c a v f t doomed q = cc
+
+-- an add to a count that may already be at its bound
+capped-more : (v x a : ℕ) → v ≡ min 65535 x → min 65535 (v + a) ≡ min 65535 (x + a)
+capped-more v x a h = omega arith
 
 module _ (z : Size) (f : ℕ → ℕ) (t : ℕ → Tx) (S : ℕ → Stage) (ls : List ℕ) (L : Line f (λ d. view (S d)) ls)
     (sound : (d : ℕ) → Sound (z .nodes) (z .counters) (S d)) (l : List Sum) (J : Counted z f S l) (c : ℕ)
     (h : Agrees f (S c) (t c)) (k : MemoryCall) (e : call-of (z .nodes) c (S c) ≡ Some k) where
+  abbrev N : ℕ
+  N = z .nodes
+
+  -- the outcome of the card's call, and its stage after it
+  abbrev o : model.Out
+  o = seen c k f t
+
+  abbrev later : Stage
+  later = advanced (S c) (o .answer) .0
+
   -- what is to be shown of an outcome
   abbrev Counts-on : model.Out → Type 0
   Counts-on o = Counted z (o .cell) (at S c (advanced (S c) (o .answer) .0))
     (summed c (cond (accepted (o .answer)) (deed (S c)) plain) l)
 
   -- the card is not about to store an add: the counters stay
-  others-stay : finishing (S c) ≡ false → (j : ℕ)
-      → seen c k f t .cell (counter-cell (z .nodes) j) ≡ f (counter-cell (z .nodes) j)
-  others-stay p j = stays-above c (1 + 4 * z .nodes) f t (S c) k (t c)
-    (row (z .nodes) (z .counters) c (S c) (sound c) k e) h (writes-below (z .nodes) (z .counters) (S c) (sound c))
-    (subst (Low (1 + 4 * z .nodes)) e (calm-row (z .nodes) (z .counters) c (S c) (sound c) p .1))
-    (counter-cell (z .nodes) j) (omega arith)
+  others-stay : finishing (S c) ≡ false → (j : ℕ) → o .cell (counter-cell N j) ≡ f (counter-cell N j)
+  others-stay p j = stays-above c (1 + 4 * N) f t (S c) k (t c)
+    (row N (z .counters) c (S c) (sound c) k e) h (writes-below N (z .counters) (S c) (sound c))
+    (subst (Low (1 + 4 * N)) e (calm-row N (z .counters) c (S c) (sound c) p .1)) (counter-cell N j) (omega arith)
 
+  -- and no add is finished
   same-sums : finishing (S c) ≡ false → (b : Bool) → summed c (cond b (deed (S c)) plain) l ≡ l
-  same-sums p true = calm-row (z .nodes) (z .counters) c (S c) (sound c) p .0 c l
+  same-sums p true = calm-row N (z .counters) c (S c) (sound c) p .0 c l
   same-sums p false = refl
 
-  some-is : (x y : MemoryCall) (o : Option MemoryCall) → o ≡ Some x → o ≡ Some y → x ≡ y
-  some-is x y o p q = cc
-
-  ok-is : (r : Result ℕ MemoryFault) (x y : ℕ) → r ≡ Ok x → r ≡ Ok y → x ≡ y
-  ok-is r x y p q = cc
-
-  -- what a load answers stands in its cell
-  load-stands : (a v : ℕ) (x : Tx) → model.load-seen c a f t x .answer ≡ Ok v → v ≡ model.load-seen c a f t x .cell a
-  load-stands a v none q = ok-is (Ok (f a)) v (f a) q refl
-  load-stands a v (live r w) q = cc
-  load-stands a v doomed q = cc
+  -- a refused card keeps no count
+  keeps-refused : finishing (S c) ≡ false → (g : ℕ → ℕ) (x : MemoryFault) (r : Refusal)
+      → Keeps N g (returns-by (S c) x r .0)
+  keeps-refused p g x OutOfRange = calm-keeps N g (S c) p
+  keeps-refused p g x Already = calm-keeps N g (S c) p
+  keeps-refused p g x NoTransaction = calm-keeps N g (S c) p
+  keeps-refused p g x Doomed = calm-keeps N g (begin-of (S c)) (calm-begin (S c) ∙ p)
+  keeps-refused p g x Full = calm-keeps N g (S c) p
 
   -- the card's new stage keeps a count only where it has just loaded it
-  keeps-new : finishing (S c) ≡ false → Keeps (z .nodes) (seen c k f t .cell) (advanced (S c) (seen c k f t .answer) .0)
-  keeps-new p = go (seen c k f t .answer) refl
+  keeps-later : finishing (S c) ≡ false → Keeps N (o .cell) later
+  keeps-later p = go (o .answer) refl
     where
-      calm : (x : MemoryFault) (r : Refusal) → Keeps (z .nodes) (seen c k f t .cell) (returns-by (S c) x r .0)
-      calm x OutOfRange = calm-keeps (z .nodes) (seen c k f t .cell) (S c) p
-      calm x Already = calm-keeps (z .nodes) (seen c k f t .cell) (S c) p
-      calm x NoTransaction = calm-keeps (z .nodes) (seen c k f t .cell) (S c) p
-      calm x Doomed = calm-keeps (z .nodes) (seen c k f t .cell) (begin-of (S c)) (calm-begin (S c) ∙ p)
-      calm x Full = calm-keeps (z .nodes) (seen c k f t .cell) (S c) p
-      got : (v : ℕ) → seen c k f t .answer ≡ Ok v → (a : ℕ) → call-of (z .nodes) c (S c) ≡ Some (call.Load c a)
-        → v ≡ seen c k f t .cell a
+      got : (v : ℕ) → o .answer ≡ Ok v → (a : ℕ) → call-of N c (S c) ≡ Some (call.Load c a) → v ≡ o .cell a
       got v q a y = subst (λ (k : MemoryCall). seen c k f t .answer ≡ Ok v → v ≡ seen c k f t .cell a)
-        (some-is (call.Load c a) k (call-of (z .nodes) c (S c)) y e) (load-stands a v (t c)) q
-      go : (r : Result ℕ MemoryFault) → seen c k f t .answer ≡ r
-        → Keeps (z .nodes) (seen c k f t .cell) (advanced (S c) r .0)
-      go (Ok v) q = keeps-goes (z .nodes) c (seen c k f t .cell) (S c) v (got v q)
-      go (Err x) q = calm x (x .refusal)
+        (one-call (call.Load c a) k (call-of N c (S c)) y e) (load-stands c a v f t (t c)) q
+      go : (r : Result ℕ MemoryFault) → o .answer ≡ r → Keeps N (o .cell) (advanced (S c) r .0)
+      go (Ok v) q = keeps-goes N c (o .cell) (S c) v (got v q)
+      go (Err x) q = keeps-refused p (o .cell) x (x .refusal)
 
   -- any step but the store of an add
-  calm-counted : finishing (S c) ≡ false → Counts-on (seen c k f t)
+  calm-counted : finishing (S c) ≡ false → Counts-on o
   calm-counted p = record
     { counts = λ j lt. others-stay p j ∙ J .counts j lt
-        ∙ ap (λ (l : List Sum). min 65535 (total j l)) (sym (same-sums p (accepted (seen c k f t .answer))))
-    ; loaded = at-all
-        (λ (d : ℕ) (s : Stage). (n j a v : ℕ) → s ≡ Adds n (A2 j a v)
-          → v ≡ seen c k f t .cell (counter-cell (z .nodes) j)) S c (advanced (S c) (seen c k f t .answer) .0)
-        (loaded-keeps (z .nodes) (seen c k f t .cell) (advanced (S c) (seen c k f t .answer) .0) (keeps-new p))
+        ∙ ap (λ (l : List Sum). min 65535 (total j l)) (sym (same-sums p (accepted (o .answer))))
+    ; loaded = at-all (λ (d : ℕ) (s : Stage). Loads N (o .cell) s) S c later
+        (loaded-keeps N (o .cell) later (keeps-later p))
         (λ d _ n j a v q. J .loaded d n j a v q ∙ sym (others-stay p j)) }
 
+  -- the standing values after the store of an add of a to counter j, which stood at v
+  abbrev stored : ℕ → ℕ → ℕ → ℕ → ℕ
+  stored j a v = at f (counter-cell N j) (capped v a)
+
+  -- the counters after it
+  count-stored : (n j a v : ℕ) → S c ≡ Adds n (A2 j a v) → (i : ℕ) → i < z .counters → (i ≡ j) ⊎ (i ≡ j → ⊥)
+      → stored j a v (counter-cell N i) ≡ min 65535 (total i l + cond (eqb j i) a 0)
+  count-stored n j a v q i lt (inl y) =
+    subst (λ (i : ℕ). i < z .counters → stored j a v (counter-cell N i) ≡ min 65535 (total i l + cond (eqb j i) a 0))
+      (sym y)
+      (λ lj. rw (eq-eqb j j refl, at-same f (counter-cell N j) (capped v a))
+        (capped-more v (total j l) a (J .loaded c n j a v q ∙ J .counts j lj))) lt
+  count-stored n j a v q i lt (inr y) =
+    at-other f (counter-cell N j) (capped v a) (counter-cell N i) (λ p. y (omega arith)) ∙ J .counts i lt
+    ∙ rw (ne-eqb j i (λ p. y (sym p))) (omega arith)
+
+  -- no other card is in the middle of an add
+  add-stored : (n j a v : ℕ) → S c ≡ Adds n (A2 j a v)
+      → Counted z (stored j a v) (at S c (Inside n mode.Write))
+          (l ++ record { card = c; counter = j; amount = a } ∷ [])
+  add-stored n j a v q = record
+    { counts = λ i lt. count-stored n j a v q i lt (cases-eq i j)
+        ∙ ap (min 65535) (sym (total-push i l (record { card = c; counter = j; amount = a })))
+    ; loaded = at-all (λ (d : ℕ) (s : Stage). Loads N (stored j a v) s) S c (Inside n mode.Write)
+        (loaded-keeps N (stored j a v) (Inside n mode.Write) tt)
+        (λ d nd m i x y r. absurd (nd (one-holds f (λ d. view (S d)) ls L c d n m (ap view q) (ap view r)))) }
+
   -- the store of an add
-  add-counted : (n j a v : ℕ) → S c ≡ Adds n (A2 j a v) → Counts-on (seen c k f t)
-  add-counted n j a v q =
-    let store = call.Store c (counter-cell (z .nodes) j) (capped v a) in
-    let is : store ≡ k = some-is store k (call-of (z .nodes) c (S c)) (ap (call-of (z .nodes) c) q) e in
-    let o : seen c k f t ≡ model.store-seen c (counter-cell (z .nodes) j) (capped v a) f t none =
-      ap (λ (k : MemoryCall). seen c k f t) (sym is)
-      ∙ ap (model.store-seen c (counter-cell (z .nodes) j) (capped v a) f t) (outside f (S c) (t c) (ap in-tx q) h) in
-    subst Counts-on (sym o)
-      (subst (λ (s : Stage). Counted z (at f (counter-cell (z .nodes) j) (capped v a)) (at S c (goes s 0 .0))
-        (summed c (deed s) l)) (sym q) done)
+  add-counted : (n j a v : ℕ) → S c ≡ Adds n (A2 j a v) → Counts-on o
+  add-counted n j a v q = subst Counts-on (sym outcome)
+    (subst (λ (s : Stage). Counted z (stored j a v) (at S c (goes s 0 .0)) (summed c (deed s) l)) (sym q)
+      (add-stored n j a v q))
     where
-      count : (i : ℕ) → i < z .counters → (i ≡ j) ⊎ (i ≡ j → ⊥)
-        → at f (counter-cell (z .nodes) j) (capped v a) (counter-cell (z .nodes) i)
-          ≡ min 65535 (total i l + cond (eqb j i) a 0)
-      count i lt (inl y) =
-        let x = J .counts i lt in
-        let w : v ≡ f (counter-cell (z .nodes) i) = rw y (J .loaded c n j a v q) in
-        rw (y, eq-eqb j j refl, at-same f (counter-cell (z .nodes) j) (capped v a)) (sums (rw y at x) (rw y at w))
-        where
-          sums : f (counter-cell (z .nodes) j) ≡ min 65535 (total j l) → v ≡ f (counter-cell (z .nodes) j)
-            → min 65535 (v + a) ≡ min 65535 (total j l + a)
-          sums x w = omega arith
-      count i lt (inr y) =
-        let x = J .counts i lt in
-        at-other f (counter-cell (z .nodes) j) (capped v a) (counter-cell (z .nodes) i) (λ q. y (omega arith)) ∙ x
-        ∙ rw (ne-eqb j i (λ q. y (sym q))) (omega arith)
-      done : Counted z (at f (counter-cell (z .nodes) j) (capped v a)) (at S c (Inside n mode.Write))
-        (l ++ record { card = c; counter = j; amount = a } ∷ [])
-      done = record
-        { counts = λ i lt. count i lt (cases-eq i j)
-            ∙ ap (min 65535) (sym (total-push i l (record { card = c; counter = j; amount = a })))
-        ; loaded = at-all
-            (λ (d : ℕ) (s : Stage). (m i x y : ℕ) → s ≡ Adds m (A2 i x y)
-              → y ≡ at f (counter-cell (z .nodes) j) (capped v a) (counter-cell (z .nodes) i)) S c (Inside n mode.Write)
-            (loaded-keeps (z .nodes) (at f (counter-cell (z .nodes) j) (capped v a)) (Inside n mode.Write) tt)
-            (λ d nd m i x y r. absurd (nd (one-holds f (λ d. view (S d)) ls L c d n m (ap view q) (ap view r)))) }
+      outcome : o ≡ model.store-seen c (counter-cell N j) (capped v a) f t none
+      outcome =
+        ap (λ (k : MemoryCall). seen c k f t)
+          (one-call k (call.Store c (counter-cell N j) (capped v a)) (call-of N c (S c)) e (ap (call-of N c) q))
+        ∙ ap (model.store-seen c (counter-cell N j) (capped v a) f t) (outside f (S c) (t c) (ap in-tx q) h)
 
   -- a step of card c keeps the counters
   pub step-counted : Counted z (seen c k f t .cell) (at S c (advanced (S c) (seen c k f t .answer) .0))
@@ -456,4 +472,3 @@ module _ (z : Size) (f : ℕ → ℕ) (t : ℕ → Tx) (S : ℕ → Stage) (ls :
   step-counted = ⊎-elim
     (λ p. let w = finishing-is (S c) p in add-counted (w .0) (w .1) (w .2) (w .3) (w .4))
     calm-counted (cases-bool (finishing (S c)))
-
