@@ -24,3 +24,4 @@ pub mod Turns
 pub mod Stands
 pub mod Laws
 pub mod Walks
+pub mod Keeps
