@@ -199,8 +199,8 @@ module _ (f : ℕ → ℕ) (V : ℕ → View) (l : List ℕ) (I : Line f V l) (c
     ; baton = inl (at-all (λ (d : ℕ) (v : View). hand v ≡ 0) V c away refl
         (λ d nd. ⊎-elim (λ e. absurd (nd e)) (λ z. z) (D .1 d)), C .1) }
 
--- a card in line changes in its place, from the view V c to u, and perhaps the one behind it: what is to be shown of the
--- other fronts and seats, of the place behind the card or the end there, and of the cells
+-- a card in line changes in its place, from the view V c to u, and perhaps the one behind it: what is to be shown of
+-- the other fronts and seats, of the place behind the card or the end there, and of the cells
 module _ (f g : ℕ → ℕ) (V : ℕ → View) (l : List ℕ) (I : Line f V l) (c : ℕ) (u : View)
     (jc : joined (V c) ≡ true) (ju : joined u ≡ true) (lu : link u ≡ link (V c)) (hu : hand u ≡ hand (V c))
     (tail : g 0 ≡ f 0)

@@ -230,7 +230,7 @@ module _ (f : ℕ → ℕ) (t : ℕ → Tx) (S : ℕ → Stage) (l : List ℕ) (
   step-x4 n zero e = commits (WriterLeaves n (X4 zero)) refl e
     (λ h. outW-only f (views S) l L c n (ap view (sym e)) (h .0))
   step-x4 n (suc k) e = commits (WriterLeaves n (X4 (suc k))) refl e
-    (λ h. outW-first f (views S) l L c n k (ap view (sym e)) (h .0))
+    (λ h. outW-first f (views S) l L c n (ap view (sym e)) k (h .0))
 
   step-y7 : (n p q s : ℕ) → ReaderLeaves n (Y7 p q s) ≡ S c → (x : Tx)
     → Agrees f (ReaderLeaves n (Y7 p q s)) x → After (ReaderLeaves n (Y7 p q s)) (commit-seen c f t x)
