@@ -1,12 +1,13 @@
 -- A card joins the line at its end.
 use mathlib.Core.Path.{_≡_, refl, sym, subst, _∙_, ap}
-use mathlib.Core.Bool.{Bool, true, false}
+use mathlib.Core.Bool.{true, false}
 use mathlib.Core.List.{List, [], _∷_, _++_}
 use mathlib.Core.Logic.{_⊎_, inl, inr, ⊎-elim}
 use Prim.Native.Nat.{ℕ, zero, suc}
 use native.Mathlib.Omega.{arith}
 use Rattle.board.proofs.Cells.{at, at-same, at-other, at-all, clash, next, prev, state, spin}
-use Rattle.board.proofs.Views.{View, away, comesW, comesR, waitsW, waitsR, holdsW, turnR, activeR, seesR, wakesR, hands}
+use Rattle.board.proofs.Views.{View, away, comesW, comesR, waitsW, waitsR}
+use Rattle.board.proofs.Views.{holdsW, turnR, activeR, seesR, wakesR, hands}
 use Rattle.board.proofs.Views.{node, link, joined, reader, active, target, hand, granted, Cells}
 use Rattle.board.proofs.Chain.{Spot, End, who, Chain, In, Once, Ok, chain-join, chain-joined, chain-end}
 use Rattle.board.proofs.Chain.{Led, Due, Baton, Line, Seat, Front, seat-place}
@@ -72,7 +73,8 @@ pub record Joining (f g : ℕ → ℕ) (v : View) (n : ℕ) (u : View) : Type 0 
   pub reader-in : reader u ≡ true → granted g u ≡ true → (f 0 ≡ 0) ⊎ ((m : ℕ) → f 0 ≡ suc m → f (state m) ≡ 3)
   pub reader-waits : reader u ≡ true → granted g u ≡ false → (m : ℕ) → f 0 ≡ suc m → f (state m) ≡ 3 → ⊥
 
-module _ (f g : ℕ → ℕ) (V : ℕ → View) (l : List ℕ) (I : Line f V l) (c n : ℕ) (u : View) (J : Joining f g (V c) n u) where
+module _ (f g : ℕ → ℕ) (V : ℕ → View) (l : List ℕ) (I : Line f V l) (c n : ℕ) (u : View)
+    (J : Joining f g (V c) n u) where
   other : (d : ℕ) → joined (V d) ≡ true → d ≡ c → ⊥
   other d j e = clash (joined (V d)) j (ap (λ (x : ℕ). joined (V x)) e ∙ J .outside)
 

@@ -8,11 +8,13 @@ use native.Mathlib.Omega.{arith}
 use lib.Dec.{eqb}
 use Rattle.std.proofs.shelf.Tests.{cases-eq, eq-eqb, ne-eqb}
 use Rattle.board.proofs.Cells.{at, at-same, at-other, at-all, clash, next, prev, state, spin}
-use Rattle.board.proofs.Views.{View, away, comesW, comesR, waitsW, waitsR, holdsW, turnR, activeR, seesR, wakesR, hands}
+use Rattle.board.proofs.Views.{View, away, comesW, comesR, waitsW, waitsR}
+use Rattle.board.proofs.Views.{holdsW, turnR, activeR, seesR, wakesR, hands}
 use Rattle.board.proofs.Views.{node, link, joined, reader, active, target, hand, granted, Cells}
 use Rattle.board.proofs.Chain.{without, Spot, End, who, Chain, In, Once, Ok, granted-frame, chain-behind, chain-place}
 use Rattle.board.proofs.Chain.{chain-pred, chain-leave, Led, Due, Baton, Line, Front, seat-place, front-end}
-use Rattle.board.proofs.Moves.{joined-link, node-is, holder, cells-frame, seat-frame, front-frame, front-none, nodes-at}
+use Rattle.board.proofs.Moves.{joined-link, node-is, holder, cells-frame}
+use Rattle.board.proofs.Moves.{seat-frame, front-frame, front-none, nodes-at}
 
 -- who is in a list without one of its cards
 in-without : (c d : ℕ) (l : List ℕ) → (d ≡ c → ⊥) → In d l → In d (without c l)
@@ -67,8 +69,8 @@ active-reader (seesR n q) a = (refl, refl)
 active-reader (wakesR n q) a = (refl, refl)
 active-reader (hands n q) a = clash false a refl
 
--- a card seen as v, with the node n, leaves its place between the links b ahead and q behind, either of which may be 0,
--- and is seen as u; the cells go from f to g
+-- a card seen as v, with the node n, leaves its place between the links b ahead and q behind, either of which may be
+-- 0, and is seen as u; the cells go from f to g
 pub record Leaving (f g : ℕ → ℕ) (v : View) (n b q : ℕ) (u : View) : Type 0 where
   -- before: in line and let in, an active reader or a writer, with nobody to look at or to wake
   pub in-line : joined v ≡ true

@@ -1,5 +1,5 @@
--- Moves within the line: a card that has left wakes the first, a reader becomes active, looks at the one behind it and
--- wakes it. The line's cards stay, so do their links.
+-- Moves within the line: a card that has left wakes the first; a reader becomes active, looks at the one behind it
+-- and wakes it. The cards in line and their links stay.
 use mathlib.Core.Path.{_≡_, refl, sym, subst, _∙_, ap}
 use mathlib.Core.Bool.{Bool, true, false}
 use mathlib.Core.List.{List, [], _∷_}
@@ -466,8 +466,8 @@ module _ (f : ℕ → ℕ) (V : ℕ → View) (l : List ℕ) (I : Line f V l) (c
   wake-line = local-line f (woken f m) V l I c (activeR n)
       (ap joined is) refl (sym (ap link is)) (sym (ap hand is)) (w-tail f m)
       (λ d _ _. front-frame f (woken f m) (V d) (w-next f m (node (V d))))
-      (λ p d i o np P. at-all (λ (d : ℕ) (x : View). (node (V d) ≡ m → ⊥) → Seat f (woken f m) (V d) x) V c (activeR n)
-        (λ _. seat) others d (wake-apart p d o np P))
+      (λ p d i o np P. at-all (λ (d : ℕ) (x : View). (node (V d) ≡ m → ⊥) → Seat f (woken f m) (V d) x)
+        V c (activeR n) (λ _. seat) others d (wake-apart p d o np P))
       behind (λ E. let z = sym (ap target is) ∙ E .aimless in absurd (omega arith))
       (at-all (λ (d : ℕ) (v : View). Cells (woken f m) v) V c (activeR n)
         (w-state f m n ∙ subst (Cells f) is (I .cells c))
