@@ -79,7 +79,7 @@ seated-without S c (p ∷ l) h = go (eqb (p .card) c) (seated-without S c l (h .
 
 -- every place keeps the node and the mode of its card through a step, whatever the memory answers
 module _ (f : ℕ → ℕ) (S : ℕ → Stage) (l : List Place) (L : Line f (views S) (cards-of l)) (h : Seated S l)
-  (c : ℕ) where
+    (c : ℕ) where
   out-of-line : joined (view (S c)) ≡ false → In c (cards-of l) → ⊥
   out-of-line j i = clash (joined (view (S c))) (chain-joined f (views S) (cards-of l) 0 (L .chain) c i) j
 
