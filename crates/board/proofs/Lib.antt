@@ -21,5 +21,6 @@ pub mod Seats
 pub mod Lists
 pub mod Turns
 pub mod Stands
+pub mod Wakes
 pub mod Laws
 pub mod Walks

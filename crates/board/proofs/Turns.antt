@@ -12,7 +12,7 @@ use Rattle.std.specs.declared.option.Option.the-variants.{Some, None}
 use Rattle.std.specs.declared.result.Result.{Result}
 use Rattle.std.specs.declared.result.Result.the-variants.{Ok, Err}
 use Rattle.std.proofs.shelf.Lists.{getD-set-same, getD-set-other}
-use Rattle.std.proofs.shelf.Tests.{ltb-true}
+use Rattle.std.proofs.shelf.Tests.{ltb-true, lt-ltb}
 use Rattle.memory.specs.declared.fault.MemoryFault.{MemoryFault}
 use Rattle.memory.specs.declared.call.MemoryCall.{MemoryCall}
 use Rattle.memory.specs.declared.call.MemoryCall.the-variants as memory-call
@@ -198,6 +198,17 @@ step-cases z s c = by-card (ltb c (z .cards)) refl
             (cond b (deed-by (s .lock .meaning) (stage-of (s .lock) c) (call-of (z .nodes) c (stage-of (s .lock) c))) plain)
     by-card true e = by-call (ltb-true c (z .cards) e) (call-of (z .nodes) c (stage-of (s .lock) c)) refl
     by-card false e = inl (refl, refl)
+
+-- a step of a card that is there, by the call of its row
+pub step-is : (z : Size) (s : DoorState) (c : ℕ) (k : MemoryCall) → c < z .cards
+    → call-of (z .nodes) c (stage-of (s .lock) c) ≡ Some k
+    → called z s (call.Step c) .1 .lock ≡ staged (s .lock) (performed (s .lock .meaning) k .after) c
+        (advanced (stage-of (s .lock) c) (performed (s .lock .meaning) k .answer) .0)
+unfolding called
+step-is z s c k lt e =
+  ap (λ (b : Bool). (cond b (step-by (s .lock) c (call-of (z .nodes) c (stage-of (s .lock) c)))
+    (refuses (s .lock) NoCard)) .1) (lt-ltb c (z .cards) lt)
+  ∙ ap (λ (o : Option MemoryCall). step-by (s .lock) c o .1) e
 
 -- what an abort does: nothing to the records, or its card is back at the begin of its transaction
 abbrev pub Aborted : Size → LockState → ℕ → LockState → Type 0

@@ -1,0 +1,292 @@
+-- No lost wake: where a turn has come, some card is about to store 0 into the spin, and nothing but its own steps moves it.
+use mathlib.Core.Path.{_≡_, refl, sym, subst, _∙_, ap}
+use mathlib.Core.Bool.{Bool, true, false, cond}
+use mathlib.Core.List.{List, [], _∷_, _++_}
+use mathlib.Core.Logic.{_⊎_, inl, inr, ⊎-elim}
+use Prim.Native.Nat.{ℕ, zero, suc, _+_, _*_, _≤_, _<_}
+use native.Mathlib.Omega.{arith}
+use lib.Dec.{eqb}
+use lib.ListN.{length}
+use Rattle.std.specs.declared.option.Option.{Option}
+use Rattle.std.specs.declared.option.Option.the-variants.{Some, None}
+use Rattle.std.specs.declared.result.Result.{Result}
+use Rattle.std.specs.declared.result.Result.the-variants.{Ok, Err}
+use Rattle.std.proofs.shelf.Tests.{cases-eq, cases-lt, eqb-true, eq-eqb, eqb-false}
+use Rattle.memory.specs.declared.fault.MemoryFault.{MemoryFault}
+use Rattle.memory.specs.declared.call.MemoryCall.{MemoryCall}
+use Rattle.memory.specs.declared.call.MemoryCall.the-variants as memory-call
+use Rattle.memory.specs.Meaning.{Meaning, Tx, none, standing, tx-of}
+use Rattle.memory.specs.Calls.{performed}
+use Rattle.stages.specs.declared.answer.Answer.{Answer}
+use Rattle.stages.specs.declared.answer.Answer.the-variants.{Step, In}
+use Rattle.stages.specs.declared.stage.Mode.{Mode}
+use Rattle.stages.specs.declared.stage.Mode.the-variants.{Read, Write}
+use Rattle.stages.specs.declared.stage.WriterEntry.the-variants.{W1, W2, W3, W4, W5, W6}
+use Rattle.stages.specs.declared.stage.ReaderEntry.the-variants.{R1, R2, R3, R4, R5, R6, R7, R8, R9, R10, R11, R12, R13, R14}
+use Rattle.stages.specs.declared.stage.Addition.the-variants.{A1, A2}
+use Rattle.stages.specs.declared.stage.WriterExit.the-variants.{X1, X2, X3, X4, X5}
+use Rattle.stages.specs.declared.stage.ReaderExit.the-variants.{Y1, Y2, Y3, Y4, Y5, Y6, Y7, Y8}
+use Rattle.stages.specs.declared.stage.Stage.{Stage}
+use Rattle.stages.specs.declared.stage.Stage.the-variants.{Idle, WriterEnters, ReaderEnters, Inside, Adds, WriterLeaves, ReaderLeaves}
+use Rattle.stages.specs.Rows.{call-of, in-transaction}
+use Rattle.lock.specs.Lock.{Size, LockState, stage-of, advanced}
+use Rattle.door.specs.declared.request.Request.{Request}
+use Rattle.door.specs.declared.request.Request.the-variants.{Enter, Leave, Add, Show}
+use Rattle.door.specs.declared.call.Call.{Call}
+use Rattle.door.specs.declared.call.Call.the-variants as call
+use Rattle.door.specs.Door.{called, served}
+use Rattle.board.specs.Book.{Book, Place, after, fed-from}
+use Rattle.board.specs.Promise as promise
+use Rattle.board.specs.Promise.{cells-of, stage, Within, No-step, Wakes-next, Wakes, Waits, Wakes-stand}
+use Rattle.board.proofs.Cells.{at, at-same, clash, next, state, spin}
+use Rattle.board.proofs.Views.{View, view, waitsW, waitsR, node, link, joined, reader, active, target, hand, granted, Cells}
+use Rattle.board.proofs.Chain.{Spot, End, Chain, Baton, chain-behind}
+use Rattle.board.proofs.Held.{Agrees, in-tx}
+use Rattle.board.proofs.Model.{Out, seen, seen-on}
+use Rattle.board.proofs.Inv.{cards-of, reads-mode, Inv}
+use Rattle.board.proofs.Bridge.{Same, Recorded, bridge}
+use Rattle.board.proofs.Rows.{recorded, ranged}
+use Rattle.board.proofs.Isolation.{outside}
+use Rattle.board.proofs.Join.{active-state}
+use Rattle.board.proofs.Moves.{aimed, waits-reader}
+use Rattle.board.proofs.Turns.{moved, moved-same, moved-other, same-stage, Taken, Served, served-moves, request-cases}
+use Rattle.board.proofs.Turns.{step-cases, step-is, abort-cases, reuse-cards}
+use Rattle.board.proofs.Stands.{node-is, chain-from, seat-in, in-place}
+
+-- Tables: who is about to wake the node m.
+
+-- a card that has left the line
+hands-is : (s : Stage) (m : ℕ) → hand (view s) ≡ suc m
+    → ((n : ℕ) × (s ≡ WriterLeaves n (X5 (suc m)))) ⊎ ((n : ℕ) × (s ≡ ReaderLeaves n (Y8 (suc m))))
+hands-is Idle m h = absurd (omega arith)
+hands-is (WriterEnters n W1) m h = absurd (omega arith)
+hands-is (WriterEnters n W2) m h = absurd (omega arith)
+hands-is (WriterEnters n (W3 p)) m h = absurd (omega arith)
+hands-is (WriterEnters n (W4 p)) m h = absurd (omega arith)
+hands-is (WriterEnters n (W5 p)) m h = absurd (omega arith)
+hands-is (WriterEnters n W6) m h = absurd (omega arith)
+hands-is (ReaderEnters n R1) m h = absurd (omega arith)
+hands-is (ReaderEnters n R2) m h = absurd (omega arith)
+hands-is (ReaderEnters n (R3 p)) m h = absurd (omega arith)
+hands-is (ReaderEnters n (R4 p)) m h = absurd (omega arith)
+hands-is (ReaderEnters n (R5 p)) m h = absurd (omega arith)
+hands-is (ReaderEnters n (R6 p)) m h = absurd (omega arith)
+hands-is (ReaderEnters n (R7 p s)) m h = absurd (omega arith)
+hands-is (ReaderEnters n R8) m h = absurd (omega arith)
+hands-is (ReaderEnters n R9) m h = absurd (omega arith)
+hands-is (ReaderEnters n R10) m h = absurd (omega arith)
+hands-is (ReaderEnters n R11) m h = absurd (omega arith)
+hands-is (ReaderEnters n (R12 t)) m h = absurd (omega arith)
+hands-is (ReaderEnters n (R13 t)) m h = absurd (omega arith)
+hands-is (ReaderEnters n (R14 t)) m h = absurd (omega arith)
+hands-is (Inside n Write) m h = absurd (omega arith)
+hands-is (Inside n Read) m h = absurd (omega arith)
+hands-is (Adds n (A1 k a)) m h = absurd (omega arith)
+hands-is (Adds n (A2 k a v)) m h = absurd (omega arith)
+hands-is (WriterLeaves n X1) m h = absurd (omega arith)
+hands-is (WriterLeaves n X2) m h = absurd (omega arith)
+hands-is (WriterLeaves n (X3 t)) m h = absurd (omega arith)
+hands-is (WriterLeaves n (X4 t)) m h = absurd (omega arith)
+hands-is (WriterLeaves n (X5 t)) m h = inl (n, ap (λ (q : ℕ). WriterLeaves n (X5 q)) h)
+hands-is (ReaderLeaves n Y1) m h = absurd (omega arith)
+hands-is (ReaderLeaves n Y2) m h = absurd (omega arith)
+hands-is (ReaderLeaves n (Y3 p)) m h = absurd (omega arith)
+hands-is (ReaderLeaves n (Y4 p t)) m h = absurd (omega arith)
+hands-is (ReaderLeaves n (Y5 p t)) m h = absurd (omega arith)
+hands-is (ReaderLeaves n (Y6 p t)) m h = absurd (omega arith)
+hands-is (ReaderLeaves n (Y7 p t s)) m h = absurd (omega arith)
+hands-is (ReaderLeaves n (Y8 t)) m h = inr (n, ap (λ (q : ℕ). ReaderLeaves n (Y8 q)) h)
+
+-- an active reader right ahead
+target-is : (s : Stage) (m : ℕ) → target (view s) ≡ suc m
+    → ((n : ℕ) × (s ≡ ReaderEnters n (R13 (suc m)))) ⊎ ((n : ℕ) × (s ≡ ReaderEnters n (R14 (suc m))))
+target-is Idle m h = absurd (omega arith)
+target-is (WriterEnters n W1) m h = absurd (omega arith)
+target-is (WriterEnters n W2) m h = absurd (omega arith)
+target-is (WriterEnters n (W3 p)) m h = absurd (omega arith)
+target-is (WriterEnters n (W4 p)) m h = absurd (omega arith)
+target-is (WriterEnters n (W5 p)) m h = absurd (omega arith)
+target-is (WriterEnters n W6) m h = absurd (omega arith)
+target-is (ReaderEnters n R1) m h = absurd (omega arith)
+target-is (ReaderEnters n R2) m h = absurd (omega arith)
+target-is (ReaderEnters n (R3 p)) m h = absurd (omega arith)
+target-is (ReaderEnters n (R4 p)) m h = absurd (omega arith)
+target-is (ReaderEnters n (R5 p)) m h = absurd (omega arith)
+target-is (ReaderEnters n (R6 p)) m h = absurd (omega arith)
+target-is (ReaderEnters n (R7 p s)) m h = absurd (omega arith)
+target-is (ReaderEnters n R8) m h = absurd (omega arith)
+target-is (ReaderEnters n R9) m h = absurd (omega arith)
+target-is (ReaderEnters n R10) m h = absurd (omega arith)
+target-is (ReaderEnters n R11) m h = absurd (omega arith)
+target-is (ReaderEnters n (R12 t)) m h = absurd (omega arith)
+target-is (ReaderEnters n (R13 t)) m h = inl (n, ap (λ (q : ℕ). ReaderEnters n (R13 q)) h)
+target-is (ReaderEnters n (R14 t)) m h = inr (n, ap (λ (q : ℕ). ReaderEnters n (R14 q)) h)
+target-is (Inside n Write) m h = absurd (omega arith)
+target-is (Inside n Read) m h = absurd (omega arith)
+target-is (Adds n (A1 k a)) m h = absurd (omega arith)
+target-is (Adds n (A2 k a v)) m h = absurd (omega arith)
+target-is (WriterLeaves n X1) m h = absurd (omega arith)
+target-is (WriterLeaves n X2) m h = absurd (omega arith)
+target-is (WriterLeaves n (X3 t)) m h = absurd (omega arith)
+target-is (WriterLeaves n (X4 t)) m h = absurd (omega arith)
+target-is (WriterLeaves n (X5 t)) m h = absurd (omega arith)
+target-is (ReaderLeaves n Y1) m h = absurd (omega arith)
+target-is (ReaderLeaves n Y2) m h = absurd (omega arith)
+target-is (ReaderLeaves n (Y3 p)) m h = absurd (omega arith)
+target-is (ReaderLeaves n (Y4 p t)) m h = absurd (omega arith)
+target-is (ReaderLeaves n (Y5 p t)) m h = absurd (omega arith)
+target-is (ReaderLeaves n (Y6 p t)) m h = absurd (omega arith)
+target-is (ReaderLeaves n (Y7 p t s)) m h = absurd (omega arith)
+target-is (ReaderLeaves n (Y8 t)) m h = absurd (omega arith)
+
+-- Stages that only a step of their card leaves.
+
+-- whether a row's call goes by a transaction
+abbrev by-transaction : Option MemoryCall → Bool
+by-transaction None = false
+by-transaction (Some k) = in-transaction k
+
+-- no request is taken at the stage, and no abort
+pub record Firm (g : Stage) : Type 0 where
+  pub busy : g ≡ Idle → ⊥
+  pub apart : (n : ℕ) (m : Mode) → g ≡ Inside n m → ⊥
+  pub alone : (N c : ℕ) → by-transaction (call-of N c g) ≡ false
+
+firm-x5 : (n q : ℕ) → Firm (WriterLeaves n (X5 q))
+firm-x5 n q = record
+  { busy = λ e. let w : _≡_ {A = ℕ} 0 1 = cc in omega arith
+  ; apart = λ a m e. let w : _≡_ {A = ℕ} 0 1 = cc in omega arith
+  ; alone = λ N c. refl }
+
+firm-y8 : (n q : ℕ) → Firm (ReaderLeaves n (Y8 q))
+firm-y8 n q = record
+  { busy = λ e. let w : _≡_ {A = ℕ} 0 1 = cc in omega arith
+  ; apart = λ a m e. let w : _≡_ {A = ℕ} 0 1 = cc in omega arith
+  ; alone = λ N c. refl }
+
+firm-r13 : (n q : ℕ) → Firm (ReaderEnters n (R13 q))
+firm-r13 n q = record
+  { busy = λ e. let w : _≡_ {A = ℕ} 0 1 = cc in omega arith
+  ; apart = λ a m e. let w : _≡_ {A = ℕ} 0 1 = cc in omega arith
+  ; alone = λ N c. refl }
+
+firm-r14 : (n q : ℕ) → Firm (ReaderEnters n (R14 q))
+firm-r14 n q = record
+  { busy = λ e. let w : _≡_ {A = ℕ} 0 1 = cc in omega arith
+  ; apart = λ a m e. let w : _≡_ {A = ℕ} 0 1 = cc in omega arith
+  ; alone = λ N c. refl }
+
+firm-r8 : (n : ℕ) → Firm (ReaderEnters n R8)
+firm-r8 n = record
+  { busy = λ e. let w : _≡_ {A = ℕ} 0 1 = cc in omega arith
+  ; apart = λ a m e. let w : _≡_ {A = ℕ} 0 1 = cc in omega arith
+  ; alone = λ N c. refl }
+
+-- a request takes no card from a firm stage
+firm-untaken : (w : Request) (g h : Stage) → Firm g → Taken w g h → ⊥
+firm-untaken (Enter m n) g h F t = F .busy (t .0)
+firm-untaken Leave g h F (n, inl t) = F .apart n Read (t .0)
+firm-untaken Leave g h F (n, inr t) = F .apart n Write (t .0)
+firm-untaken (Add k a) g h F t = F .apart (t .0) Write (t .1)
+firm-untaken (Show k) g h F t = t
+
+-- a list of calls without a step of card d begins with a call that is none
+one-call : (d : ℕ) (k : Call) (cs : List Call) → No-step d (k ∷ cs) → No-step d (k ∷ []) × No-step d cs
+one-call d (call.Request c t k x y) cs h = (tt, h)
+one-call d (call.Step c) cs h = ((h .0, tt), h .1)
+one-call d (call.Abort c) cs h = (tt, h)
+one-call d (call.Reuse c n v) cs h = (tt, h)
+
+-- a call other than a step of card d leaves it at a firm stage
+pub firm-stays : (z : Size) (b : Book) (d : ℕ) (g : Stage) → Firm g → stage b d ≡ g → (k : Call) → No-step d (k ∷ [])
+    → stage (after z b k) d ≡ g
+firm-stays z b d g F e (call.Request c t k x y) h =
+  request-cases z (b .board) c t k x y (λ (u : LockState) (o : Option Request). stage-of u d ≡ g) e
+    (λ w lt a. judged w (served-moves z (b .board .lock) c w)) (λ w lt a. judged w (served-moves z (b .board .lock) c w))
+  where
+    judged : (w : Request) → Served (b .board .lock) c w (served z (b .board .lock) c w)
+        → stage-of (served z (b .board .lock) c w .1) d ≡ g
+    judged w (inl q) = same-stage (b .board .lock) (served z (b .board .lock) c w .1) d (q .0) ∙ e
+    judged w (inr q) = ⊎-elim
+      (λ p. absurd (firm-untaken w g (q .0) F
+        (subst (λ (x : Stage). Taken w x (q .0)) (ap (stage-of (b .board .lock)) (sym p) ∙ e) (q .3))))
+      (λ n. moved-other (b .board .lock) (served z (b .board .lock) c w .1) c d (q .0) n (q .1) ∙ e) (cases-eq d c)
+firm-stays z b d g F e (call.Step c) h = ⊎-elim
+  (λ q. ap (λ (u : LockState). stage-of u d) (q .0) ∙ e)
+  (λ q. moved-other (b .board .lock) (called z (b .board) (call.Step c) .1 .lock) c d
+    (advanced (stage b c) (performed (b .board .lock .meaning) (q .0) .answer) .0)
+    (λ p. h .0 (sym p)) (ap (λ (u : LockState). u .cards) (q .3)) ∙ e)
+  (step-cases z (b .board) c)
+firm-stays z b d g F e (call.Abort c) h = ⊎-elim
+  (λ q. same-stage (b .board .lock) (called z (b .board) (call.Abort c) .1 .lock) d q ∙ e)
+  (λ q. ⊎-elim
+    (λ p. let same : stage b c ≡ g = ap (stage b) (sym p) ∙ e in
+      clash (in-transaction (q .0)) (q .3)
+        (sym (ap by-transaction (q .2)) ∙ ap (λ (x : Stage). by-transaction (call-of (z .nodes) c x)) same
+          ∙ F .alone (z .nodes) c))
+    (λ n. moved-other (b .board .lock) (called z (b .board) (call.Abort c) .1 .lock) c d _ n (q .4) ∙ e) (cases-eq d c))
+  (abort-cases z (b .board) c)
+firm-stays z b d g F e (call.Reuse c n v) h =
+  same-stage (b .board .lock) (called z (b .board) (call.Reuse c n v) .1 .lock) d (reuse-cards z (b .board) c n v) ∙ e
+
+pub firm-fed : (z : Size) (b : Book) (d : ℕ) (g : Stage) → Firm g → stage b d ≡ g → (cs : List Call) → No-step d cs
+    → stage (fed-from z b cs) d ≡ g
+firm-fed z b d g F e [] h = e
+firm-fed z b d g F e (k ∷ cs) h = let q = one-call d k cs h in
+  firm-fed z (after z b k) d g F (firm-stays z b d g F e k (q .0)) cs (q .1)
+
+-- Steps that wake.
+
+module _ (z : Size) (W : Within z) (b : Book) (I : Inv z b) where
+  abbrev F : ℕ → ℕ
+  F = standing (b .board .lock .meaning)
+
+  abbrev T : ℕ → Tx
+  T = tx-of (b .board .lock .meaning)
+
+  abbrev V : ℕ → View
+  V d = view (stage b d)
+
+  -- a card that is not idle is on the board
+  pub there : (d : ℕ) → (stage b d ≡ Idle → ⊥) → d < z .cards
+  there d n = ⊎-elim (λ lt. lt) (λ le. absurd (n (I .kept .absent d le))) (cases-lt d (z .cards))
+
+  -- the call of a card's row, seen through the standing values and the transactions
+  pub row-seen : (d : ℕ) (k : MemoryCall) → d < z .cards → call-of (z .nodes) d (stage b d) ≡ Some k
+      → Same (performed (b .board .lock .meaning) k) (seen d k F T)
+  row-seen d k lt e = let w = W .cards in
+    bridge (b .board .lock .meaning) (I .kept .cells) (I .kept .txs) d (omega arith) k
+      (ranged (z .nodes) (z .counters) d (stage b d) (W .nodes) (W .counters) (I .kept .sound d) k e)
+      (recorded (z .nodes) (z .counters) F (stage b d) (T d) (W .nodes) (I .kept .sound d) (I .kept .isolated .agrees d))
+
+  -- the same of a stage without a transaction
+  row-alone : (d : ℕ) (g : Stage) (k : MemoryCall) → d < z .cards → stage b d ≡ g → in-tx g ≡ false
+      → call-of (z .nodes) d g ≡ Some k → Same (performed (b .board .lock .meaning) k) (seen-on k F T none)
+  row-alone d g k lt e i q =
+    subst (λ (x : Tx). Same (performed (b .board .lock .meaning) k) (seen-on k F T x))
+      (outside F (stage b d) (T d) (ap in-tx e ∙ i) (I .kept .isolated .agrees d))
+      (row-seen d k lt (ap (call-of (z .nodes) d) e ∙ q))
+
+  -- a step at a stage that stores 0 into a cell
+  pub step-stores : (d a : ℕ) (g : Stage) → d < z .cards → stage b d ≡ g → in-tx g ≡ false
+      → call-of (z .nodes) d g ≡ Some (memory-call.Store d a 0)
+      → standing (after z b (call.Step d) .board .lock .meaning) a ≡ 0
+  step-stores d a g lt e i q =
+    ap (λ (u : LockState). standing (u .meaning) a)
+      (step-is z (b .board) d (memory-call.Store d a 0) lt (ap (call-of (z .nodes) d) e ∙ q))
+    ∙ ap (λ (f : ℕ → ℕ). f a) (row-alone d g (memory-call.Store d a 0) lt e i q .cell)
+    ∙ at-same F a 0
+
+  -- a step at a stage that loads a cell
+  pub step-loads : (d a : ℕ) (g : Stage) → d < z .cards → stage b d ≡ g → in-tx g ≡ false
+      → call-of (z .nodes) d g ≡ Some (memory-call.Load d a)
+      → stage (after z b (call.Step d)) d ≡ advanced g (Ok (F a)) .0
+  step-loads d a g lt e i q =
+    moved-same (b .board .lock) (called z (b .board) (call.Step d) .1 .lock) d
+      (advanced (stage b d) (performed (b .board .lock .meaning) (memory-call.Load d a) .answer) .0) long
+      (ap (λ (u : LockState). u .cards) (step-is z (b .board) d (memory-call.Load d a) lt (ap (call-of (z .nodes) d) e ∙ q)))
+    ∙ ap (λ (r : Result ℕ MemoryFault). advanced (stage b d) r .0) (row-alone d g (memory-call.Load d a) lt e i q .answer)
+    ∙ ap (λ (x : Stage). advanced x (Ok (F a)) .0) e
+    where
+      long : d < length (b .board .lock .cards)
+      long = let w = W .cards in let k = I .kept .cards in omega arith
