@@ -43,7 +43,7 @@ use Rattle.board.proofs.Views.{View, view, waitsW, waitsR, node, link, joined,
 use Rattle.board.proofs.Chain.{Spot, End, Chain, Baton, chain-behind}
 use Rattle.board.proofs.Held.{Agrees, in-tx}
 use Rattle.board.proofs.Model.{Out, seen, seen-on}
-use Rattle.board.proofs.Inv.{cards-of, reads-mode, Inv}
+use Rattle.board.proofs.Inv.{cards-of, reads-mode, Seated, Inv}
 use Rattle.board.proofs.Bridge.{Same, Recorded, bridge}
 use Rattle.board.proofs.Rows.{recorded, ranged}
 use Rattle.board.proofs.Isolation.{outside}
@@ -290,3 +290,182 @@ module _ (z : Size) (W : Within z) (b : Book) (I : Inv z b) where
     where
       long : d < length (b .board .lock .cards)
       long = let w = W .cards in let k = I .kept .cards in omega arith
+
+-- a reader that does not see its spin at 0 goes on waiting
+r8-waits : (m v : ℕ) → (v ≡ 0 → ⊥) → advanced (ReaderEnters m R8) (Ok v) .0 ≡ ReaderEnters m R8
+r8-waits m zero h = absurd (h refl)
+r8-waits m (suc v) h = refl
+
+-- a card that waits is in line with its node, and its spin at 0 lets it in
+waits-view : (b : Book) (c n : ℕ) (m : Mode) → Waits b c n m
+    → (joined (view (stage b c)) ≡ true) × (link (view (stage b c)) ≡ suc n) × (reader (view (stage b c)) ≡ reads-mode m)
+waits-view b c n Write e = (ap (λ (g : Stage). joined (view g)) e, ap (λ (g : Stage). link (view g)) e, ap (λ (g : Stage). reader (view g)) e)
+waits-view b c n Read e = (ap (λ (g : Stage). joined (view g)) e, ap (λ (g : Stage). link (view g)) e, ap (λ (g : Stage). reader (view g)) e)
+
+waits-granted : (f : ℕ → ℕ) (b : Book) (c n : ℕ) (m : Mode) → Waits b c n m
+    → granted f (view (stage b c)) ≡ true → f (spin n) ≡ 0
+waits-granted f b c n Write e g = eqb-true (f (spin n)) 0 (sym (ap (λ (g : Stage). granted f (view g)) e) ∙ g)
+waits-granted f b c n Read e g = eqb-true (f (spin n)) 0 (sym (ap (λ (g : Stage). granted f (view g)) e) ∙ g)
+
+-- it wakes nobody itself
+waits-hand : (b : Book) (c n : ℕ) (m : Mode) → Waits b c n m
+    → (hand (view (stage b c)) ≡ 0) × (target (view (stage b c)) ≡ 0)
+waits-hand b c n Write e = (ap (λ (g : Stage). hand (view g)) e, ap (λ (g : Stage). target (view g)) e)
+waits-hand b c n Read e = (ap (λ (g : Stage). hand (view g)) e, ap (λ (g : Stage). target (view g)) e)
+
+-- Whatever is called: by the invariant after each call.
+
+module _ (z : Size) (W : Within z) (keep : (b : Book) (k : Call) → Inv z b → Inv z (after z b k)) where
+  inv-fed : (b : Book) → Inv z b → (cs : List Call) → Inv z (fed-from z b cs)
+  inv-fed b I [] = I
+  inv-fed b I (k ∷ cs) = inv-fed (after z b k) (keep b k I) cs
+
+  -- a card about to store 0 into the spin of the node m
+  store-next : (b : Book) → Inv z b → (d m : ℕ) (g : Stage) → Firm g → stage b d ≡ g → in-tx g ≡ false
+      → call-of (z .nodes) d g ≡ Some (memory-call.Store d (spin m) 0) → Wakes-next z b d m
+  store-next b I d m g H e i q cs h =
+    step-stores z W (fed-from z b cs) (inv-fed b I cs) d (spin m) g
+      (there z W b I d (λ p. H .busy (sym e ∙ p))) (firm-fed z b d g H e cs h) i q
+
+  -- the spin of a reader that is about to be seen is not 0 yet
+  seen-waits : (b : Book) → Inv z b → (d c n m : ℕ) → stage b d ≡ ReaderEnters n (R13 (suc m))
+      → stage b c ≡ ReaderEnters m R8 → standing (b .board .lock .meaning) (spin m) ≡ 0 → ⊥
+  seen-waits b I d c n m e w o = ⊎-elim
+    (λ E. let a = ap (λ (g : Stage). target (view g)) e in let t = E .aimless in omega arith)
+    (λ q. let A = aimed F (V d) (V (q .0)) m (q .2) (ap (λ (g : Stage). target (view g)) e) in
+      let lc : link (V c) ≡ suc m = ap (λ (g : Stage). link (view g)) w in
+      ⊎-elim
+        (λ p. clash (granted F (V c)) (ap (λ (g : Stage). granted F (view g)) w ∙ eq-eqb (F (spin m)) 0 o)
+          (ap (λ (x : ℕ). granted F (V x)) (sym p) ∙ A .1))
+        (λ p. let a = A .0 in omega arith)
+        (I .kept .line .nodes (q .0) c (A .0 ∙ sym lc)))
+    (chain-behind F V (cards-of (b .line)) 0 (I .kept .line .chain) d
+      (I .kept .line .members d (ap (λ (g : Stage). joined (view g)) e)))
+    where
+      F : ℕ → ℕ
+      F = standing (b .board .lock .meaning)
+      V : ℕ → View
+      V x = view (stage b x)
+
+  -- so it goes on waiting, whatever else is called
+  seen-stays : (b : Book) → Inv z b → (d c n m : ℕ) → stage b d ≡ ReaderEnters n (R13 (suc m))
+      → stage b c ≡ ReaderEnters m R8 → (k : Call) → stage (after z b k) c ≡ ReaderEnters m R8
+  seen-stays b I d c n m e w (call.Request a t k x y) =
+    firm-stays z b c (ReaderEnters m R8) (firm-r8 m) w (call.Request a t k x y) tt
+  seen-stays b I d c n m e w (call.Abort a) = firm-stays z b c (ReaderEnters m R8) (firm-r8 m) w (call.Abort a) tt
+  seen-stays b I d c n m e w (call.Reuse a i v) =
+    firm-stays z b c (ReaderEnters m R8) (firm-r8 m) w (call.Reuse a i v) tt
+  seen-stays b I d c n m e w (call.Step a) = ⊎-elim
+    (λ p. subst (λ (x : ℕ). stage (after z b (call.Step x)) c ≡ ReaderEnters m R8) (sym p)
+      (step-loads z W b I c (spin m) (ReaderEnters m R8) (there z W b I c (λ q. firm-r8 m .busy (sym w ∙ q))) w refl refl
+        ∙ r8-waits m (standing (b .board .lock .meaning) (spin m)) (seen-waits b I d c n m e w)))
+    (λ p. firm-stays z b c (ReaderEnters m R8) (firm-r8 m) w (call.Step a) (p, tt))
+    (cases-eq a c)
+
+  seen-fed : (b : Book) → Inv z b → (d c n m : ℕ) → stage b d ≡ ReaderEnters n (R13 (suc m))
+      → stage b c ≡ ReaderEnters m R8 → (cs : List Call) → No-step d cs → stage (fed-from z b cs) c ≡ ReaderEnters m R8
+  seen-fed b I d c n m e w [] h = w
+  seen-fed b I d c n m e w (k ∷ cs) h = let q = one-call d k cs h in
+    seen-fed (after z b k) (keep b k I) d c n m
+      (firm-stays z b d (ReaderEnters n (R13 (suc m))) (firm-r13 n (suc m)) e k (q .0))
+      (seen-stays b I d c n m e w k) cs (q .1)
+
+  -- an active reader that looks at a reader right behind it wakes it with the step after
+  sees-then-wakes : (b : Book) → Inv z b → (d c n m : ℕ) → stage b d ≡ ReaderEnters n (R13 (suc m))
+      → stage b c ≡ ReaderEnters m R8 → Wakes z b d m
+  sees-then-wakes b I d c n m e w = inr soon
+    where
+      soon : (cs : List Call) → No-step d cs → Wakes-next z (after z (fed-from z b cs) (call.Step d)) d m
+      soon cs h =
+        let J = inv-fed b I cs in
+        let now = firm-fed z b d (ReaderEnters n (R13 (suc m))) (firm-r13 n (suc m)) e cs h in
+        let waits = seen-fed b I d c n m e w cs h in
+        let one : standing (fed-from z b cs .board .lock .meaning) (state m) ≡ 1
+              = subst (λ (g : Stage). Cells (standing (fed-from z b cs .board .lock .meaning)) (view g)) waits
+                  (J .kept .line .cells c) in
+        store-next (after z (fed-from z b cs) (call.Step d)) (keep (fed-from z b cs) (call.Step d) J) d m
+          (ReaderEnters n (R14 (suc m))) (firm-r14 n (suc m))
+          (step-loads z W (fed-from z b cs) J d (state m) (ReaderEnters n (R13 (suc m)))
+            (there z W b I d (λ p. firm-r13 n (suc m) .busy (sym e ∙ p))) now refl refl
+            ∙ ap (λ (v : ℕ). advanced (ReaderEnters n (R13 (suc m))) (Ok v) .0) one)
+          refl refl
+
+  module _ (b : Book) (I : Inv z b) where
+    -- the spin of the node m is about to be set, by another card than c
+    abbrev Soon : ℕ → ℕ → Type 0
+    Soon c m = (d : ℕ) × (d < z .cards) × (d ≡ c → ⊥) × Wakes z b d m
+
+    -- by a card that has left the line
+    hand-soon : (c d m : ℕ) → (d ≡ c → ⊥) → hand (view (stage b d)) ≡ suc m → Soon c m
+    hand-soon c d m n h = (d, lt, n, inl (⊎-elim
+        (λ w. store-next b I d m (WriterLeaves (w .0) (X5 (suc m))) (firm-x5 (w .0) (suc m)) (w .1) refl refl)
+        (λ w. store-next b I d m (ReaderLeaves (w .0) (Y8 (suc m))) (firm-y8 (w .0) (suc m)) (w .1) refl refl)
+        (hands-is (stage b d) m h)))
+      where
+        lt : d < z .cards
+        lt = there z W b I d (λ e. let o = ap (λ (g : Stage). hand (view g)) e in omega arith)
+
+    -- by the active reader right ahead
+    target-soon : (c d m : ℕ) → (d ≡ c → ⊥) → stage b c ≡ ReaderEnters m R8 → target (view (stage b d)) ≡ suc m → Soon c m
+    target-soon c d m n w h = (d, lt, n, ⊎-elim
+        (λ q. sees-then-wakes b I d c (q .0) m (q .1) w)
+        (λ q. inl (store-next b I d m (ReaderEnters (q .0) (R14 (suc m))) (firm-r14 (q .0) (suc m)) (q .1) refl refl))
+        (target-is (stage b d) m h))
+      where
+        lt : d < z .cards
+        lt = there z W b I d (λ e. let o = ap (λ (g : Stage). target (view g)) e in omega arith)
+
+    -- the first in line
+    first-woken : (c n : ℕ) (m : Mode) → Waits b c n m → (y : List Place)
+        → b .line ≡ record { card = c; node = n; mode = m } ∷ y
+        → (standing (b .board .lock .meaning) (spin n) ≡ 0) ⊎ Soon c n
+    first-woken c n m w y e = by-baton
+        (subst (λ (l : List Place). Baton (standing (b .board .lock .meaning)) (λ d. view (stage b d)) (cards-of l)) e
+          (I .kept .line .baton))
+      where
+        by-baton : Baton (standing (b .board .lock .meaning)) (λ d. view (stage b d)) (c ∷ cards-of y)
+            → (standing (b .board .lock .meaning) (spin n) ≡ 0) ⊎ Soon c n
+        by-baton (inl B) = inl (waits-granted (standing (b .board .lock .meaning)) b c n m w (B .1))
+        by-baton (inr B) = inr (hand-soon c (B .0) n
+          (λ p. B .1 (ap (λ (x : ℕ). hand (view (stage b x))) p ∙ waits-hand b c n m w .0))
+          (B .3 .0 ∙ waits-view b c n m w .1))
+
+    -- a reader behind an active one
+    reader-woken : (c n : ℕ) → stage b c ≡ ReaderEnters n R8 → (a : Place)
+        → promise.Right-ahead (b .line) a (record { card = c; node = n; mode = Read }) → promise.Active (cells-of b) a
+        → (standing (b .board .lock .meaning) (spin n) ≡ 0) ⊎ Soon c n
+    reader-woken c n w a r o = by-grant (granted F (V c)) refl
+      where
+        F : ℕ → ℕ
+        F = standing (b .board .lock .meaning)
+        V : ℕ → View
+        V d = view (stage b d)
+        split : b .line ≡ r .0 ++ a ∷ record { card = c; node = n; mode = Read } ∷ r .1
+        split = r .2
+        chain : (joined (V (a .card)) ≡ true) × Chain F V (suc (a .card)) (c ∷ cards-of (r .1))
+        chain = chain-from F V (r .0) a (record { card = c; node = n; mode = Read } ∷ r .1) 0
+          (subst (λ (l : List Place). Chain F V 0 (cards-of l)) split (I .kept .line .chain))
+        node-of : node (V (a .card)) ≡ a .node
+        node-of = node-is (V (a .card)) (a .node) (seat-in (stage b) (r .0) a
+          (record { card = c; node = n; mode = Read } ∷ r .1) (subst (Seated (stage b)) split (I .seated)) .0)
+        act : active (V (a .card)) ≡ true
+        act = active-state F (V (a .card)) (chain .0) (I .kept .line .cells (a .card)) .1
+          (ap (λ (x : ℕ). F (state x)) node-of ∙ o)
+        by-grant : (t : Bool) → granted F (V c) ≡ t → (F (spin n) ≡ 0) ⊎ Soon c n
+        by-grant true g = inl (waits-granted F b c n Read w g)
+        by-grant false g = inr (target-soon c (a .card) n
+          (λ p. clash (active (V c)) (ap (λ (x : ℕ). active (V x)) (sym p) ∙ act) (ap (λ (g : Stage). active (view g)) w))
+          w (chain .1 .0 .owed act (ap (λ (g : Stage). reader (view g)) w) g ∙ ap (λ (g : Stage). link (view g)) w))
+
+    -- no lost wake
+    pub wakes-stand : Wakes-stand z (cells-of b) b
+    wakes-stand = record
+      { waiting = λ c n m w. let v = waits-view b c n m w in in-place z b I c n m (v .0) (v .1) (v .2)
+      ; woken = woken }
+      where
+        woken : (c n : ℕ) (m : Mode) → Waits b c n m
+            → promise.Turn-come (cells-of b) (b .line) (record { card = c; node = n; mode = m })
+            → (standing (b .board .lock .meaning) (spin n) ≡ 0) ⊎ Soon c n
+        woken c n m w (inl t) = first-woken c n m w (t .0) (t .1)
+        woken c n Read w (inr t) = reader-woken c n w (t .1 .0) (t .1 .1) (t .1 .2)
+        woken c n Write w (inr t) = clash (reads-mode Write) (ap reads-mode (t .0)) refl
