@@ -24,3 +24,4 @@ pub mod Stands
 pub mod Wakes
 pub mod Laws
 pub mod Walks
+pub mod Stores
