@@ -1,12 +1,9 @@
--- From lists to functions: a memory call on a meaning is the call seen through the standing values and the transactions,
--- and a card's new stage is a change of the stages at one place.
+-- From lists to functions: a memory call on a meaning is the call seen through the standing values and the
+-- transactions, and a card's new stage is a change of the stages at one place.
 use mathlib.Core.Path.{_≡_, refl, sym, subst, _∙_, ap, fun-ext}
-use mathlib.Core.Bool.{Bool, true, false, cond}
 use mathlib.Core.List.{List, [], _∷_, map}
 use mathlib.Core.Logic.{_⊎_, inl, inr}
 use Prim.Native.Nat.{ℕ, zero, suc, _<_}
-use native.Mathlib.Omega.{arith}
-use lib.Dec.{eqb, ltb}
 use lib.ListN.{length, getD, set}
 use Rattle.std.proofs.shelf.Tests.{cases-eq, eq-eqb, ne-eqb, lt-ltb}
 use Rattle.std.proofs.shelf.Lists.{getD-set-same, getD-set-other, length-set, length-map}
@@ -17,14 +14,16 @@ use Rattle.memory.specs.declared.access.Access.the-variants.{Reads, Writes}
 use Rattle.memory.specs.declared.write.Write.{Write}
 use Rattle.memory.specs.declared.call.MemoryCall.{MemoryCall}
 use Rattle.memory.specs.declared.call.MemoryCall.the-variants as call
-use Rattle.memory.specs.Meaning.{Meaning, Outcome, Tx, none, live, doomed, standing, tx-of, struck, served, landed, value-in, marking, recording}
-use Rattle.memory.specs.Meaning.{load-at, store-at, begin-at, read-marking, read-open, read-at, write-open, write-at, commit-at, drop-at}
+use Rattle.memory.specs.Meaning.{Meaning, Outcome, Tx, none, live, doomed, standing, tx-of, struck, served, landed}
+use Rattle.memory.specs.Meaning.{value-in, marking, recording}
+use Rattle.memory.specs.Meaning.{load-at, store-at, begin-at, read-marking, read-open, read-at, write-open, write-at}
+use Rattle.memory.specs.Meaning.{commit-at, drop-at}
 use Rattle.memory.specs.Calls.{performed, as-zero}
 use Rattle.stages.specs.declared.stage.Stage.{Stage}
 use Rattle.stages.specs.declared.stage.Card.{Card}
 use Rattle.lock.specs.Lock.{LockState, stage-of, staged, idle-card}
 use Rattle.board.proofs.Cells.{at, at-same, at-other}
-use Rattle.board.proofs.Model.{Out, out, lands, seen, load-seen, store-seen, begin-seen, mark-seen, value-seen, read-seen}
+use Rattle.board.proofs.Model.{Out, lands, seen, load-seen, store-seen, begin-seen, mark-seen, value-seen, read-seen}
 use Rattle.board.proofs.Model.{record-seen, write-seen, commit-seen, drop-seen}
 
 -- a list as a function
@@ -42,7 +41,8 @@ set-is {A} d xs i v h = fun-ext (λ a. go a (cases-eq a i))
     go a (inr n) = getD-set-other xs i a v d n ∙ sym (at-other (place d xs) i v a n)
 
 -- struck transactions, one by one
-struck-at : (k : Access) (a : ℕ) (xs : List Tx) (d : ℕ) → getD (map (struck k a) xs) d none ≡ struck k a (getD xs d none)
+struck-at : (k : Access) (a : ℕ) (xs : List Tx) (d : ℕ)
+    → getD (map (struck k a) xs) d none ≡ struck k a (getD xs d none)
 struck-at k a [] d = refl
 struck-at k a (x ∷ xs) zero = refl
 struck-at k a (x ∷ xs) (suc d) = struck-at k a xs d
@@ -53,6 +53,7 @@ served-is : (k : Access) (c a : ℕ) (own : Tx) (m : Meaning) → c < length (m 
 served-is k c a own m h = set-is none (map (struck k a) (m .txs)) c own (rw (length-map (m .txs) (struck k a)) h)
   ∙ ap (λ (t : ℕ → Tx). at t c own) (fun-ext (struck-at k a (m .txs)))
 
+-- there are as many transactions as before
 served-length : (k : Access) (c a : ℕ) (own : Tx) (m : Meaning) → length (served k c a own m .txs) ≡ length (m .txs)
 served-length k c a own m = length-set (map (struck k a) (m .txs)) c own ∙ length-map (m .txs) (struck k a)
 
@@ -68,12 +69,14 @@ Recorded (live r w) = Below 137 w
 Recorded doomed = Unit {0}
 
 -- all recorded values made standing
-landed-is : (ws : List Write) (cs : List ℕ) → length cs ≡ 137 → Below 137 ws → place 0 (landed cs ws) ≡ lands ws (place 0 cs)
+landed-is : (ws : List Write) (cs : List ℕ) → length cs ≡ 137 → Below 137 ws
+    → place 0 (landed cs ws) ≡ lands ws (place 0 cs)
 landed-is [] cs e h = refl
 landed-is (w ∷ ws) cs e h =
   landed-is ws (set cs (w .cell) (w .value)) (length-set cs (w .cell) (w .value) ∙ e) (h .1)
   ∙ ap (lands ws) (set-is 0 cs (w .cell) (w .value) (rw e (h .0)))
 
+-- there are as many cells as before
 landed-length : (ws : List Write) (cs : List ℕ) → length (landed cs ws) ≡ length cs
 landed-length [] cs = refl
 landed-length (w ∷ ws) cs = landed-length ws (set cs (w .cell) (w .value)) ∙ length-set cs (w .cell) (w .value)
@@ -87,10 +90,13 @@ pub record Same (o : Outcome ℕ) (p : Out) : Type 0 where
   pub txs : length (o .after .txs) ≡ 8
 
 module _ (m : Meaning) (hc : length (m .cells) ≡ 137) (ht : length (m .txs) ≡ 8) (c : ℕ) (lc : c < 8) where
+  -- the card has a transaction
   card : c < length (m .txs)
   card = rw ht lc
 
-  -- each call, by the card's transaction
+  -- Each call, by the card's transaction.
+
+  -- load
   same-load : (a : ℕ) (x : Tx) → Same (load-at m c a x) (load-seen c a (standing m) (tx-of m) x)
   same-load a none = record
     { cell = refl; tx = served-is Reads c a none m card; answer = refl; cells = hc
@@ -98,6 +104,7 @@ module _ (m : Meaning) (hc : length (m .cells) ≡ 137) (ht : length (m .txs) �
   same-load a (live r w) = record { cell = refl; tx = refl; answer = refl; cells = hc; txs = ht }
   same-load a doomed = record { cell = refl; tx = refl; answer = refl; cells = hc; txs = ht }
 
+  -- store
   same-store : (a v : ℕ) → a < 137 → (x : Tx)
       → Same (as-zero (store-at m c a v x)) (store-seen c a v (standing m) (tx-of m) x)
   same-store a v h none = record
@@ -106,6 +113,7 @@ module _ (m : Meaning) (hc : length (m .cells) ≡ 137) (ht : length (m .txs) �
   same-store a v h (live r w) = record { cell = refl; tx = refl; answer = refl; cells = hc; txs = ht }
   same-store a v h doomed = record { cell = refl; tx = refl; answer = refl; cells = hc; txs = ht }
 
+  -- begin
   same-begin : (x : Tx) → Same (as-zero (begin-at m c x)) (begin-seen c (standing m) (tx-of m) x)
   same-begin none = record
     { cell = refl; tx = set-is none (m .txs) c (live [] []) card; answer = refl; cells = hc
@@ -113,6 +121,7 @@ module _ (m : Meaning) (hc : length (m .cells) ≡ 137) (ht : length (m .txs) �
   same-begin (live r w) = record { cell = refl; tx = refl; answer = refl; cells = hc; txs = ht }
   same-begin doomed = record { cell = refl; tx = refl; answer = refl; cells = hc; txs = ht }
 
+  -- read, by the marks after it, by the transaction's own write, and whole
   same-mark : (a : ℕ) (w : List Write) (r : Option (List ℕ))
       → Same (read-marking m c a w r) (mark-seen c a (standing m) (tx-of m) w r)
   same-mark a w (Some r) = record
@@ -136,6 +145,7 @@ module _ (m : Meaning) (hc : length (m .cells) ≡ 137) (ht : length (m .txs) �
     { cell = refl; tx = set-is none (m .txs) c none card; answer = refl; cells = hc
     ; txs = length-set (m .txs) c none ∙ ht }
 
+  -- write, by the writes after it, and whole
   same-record : (a : ℕ) (r : List ℕ) (w : Option (List Write))
       → Same (as-zero (write-open m c a r w)) (record-seen c a (standing m) (tx-of m) r w)
   same-record a r (Some w) = record
@@ -152,6 +162,7 @@ module _ (m : Meaning) (hc : length (m .cells) ≡ 137) (ht : length (m .txs) �
     { cell = refl; tx = set-is none (m .txs) c none card; answer = refl; cells = hc
     ; txs = length-set (m .txs) c none ∙ ht }
 
+  -- commit
   same-commit : (x : Tx) → Recorded x → Same (as-zero (commit-at m c x)) (commit-seen c (standing m) (tx-of m) x)
   same-commit none h = record { cell = refl; tx = refl; answer = refl; cells = hc; txs = ht }
   same-commit (live r w) h = record
@@ -161,6 +172,7 @@ module _ (m : Meaning) (hc : length (m .cells) ≡ 137) (ht : length (m .txs) �
     { cell = refl; tx = set-is none (m .txs) c none card; answer = refl; cells = hc
     ; txs = length-set (m .txs) c none ∙ ht }
 
+  -- drop
   same-drop : (x : Tx) → Same (as-zero (drop-at m c x)) (drop-seen c (standing m) (tx-of m) x)
   same-drop none = record { cell = refl; tx = refl; answer = refl; cells = hc; txs = ht }
   same-drop (live r w) = record
@@ -211,6 +223,7 @@ staged-is s m c g e h = fun-ext (λ d. ap (λ (f : ℕ → Card). f d .stage)
     inner d (inl p) = rw (eq-eqb d c p)
     inner d (inr p) = rw (ne-eqb d c p)
 
+-- there are as many cards as before
 pub staged-length : (s : LockState) (m : Meaning) (c : ℕ) (g : Stage) → length (s .cards) ≡ 8
     → length (staged s m c g .cards) ≡ 8
 staged-length s m c g e = length-set (s .cards) c (record { stage = g }) ∙ e

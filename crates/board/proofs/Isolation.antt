@@ -1,16 +1,15 @@
 -- The memory's isolation: what an open transaction holds agrees with its card's stage, and what it read still stands,
 -- whatever the other cards call.
 use mathlib.Core.Path.{_≡_, refl, sym, subst, _∙_, ap, fun-ext}
-use mathlib.Core.Bool.{Bool, true, false, cond, _||_}
+use mathlib.Core.Bool.{Bool, true, false, cond}
 use mathlib.Core.List.{List, [], _∷_, _++_}
 use mathlib.Core.Logic.{_⊎_, inl, inr}
-use Prim.Native.Nat.{ℕ, zero, suc, _+_, _≤_, _<_}
+use Prim.Native.Nat.{ℕ}
 use native.Mathlib.Omega.{arith}
-use lib.Dec.{eqb, ltb}
+use lib.Dec.{eqb}
 use Rattle.std.proofs.shelf.Ways.{tells}
 use Rattle.std.proofs.shelf.Tests.{cases-eq, eq-eqb, ne-eqb}
-use Rattle.std.specs.declared.option.Option.{Option}
-use Rattle.std.specs.declared.option.Option.the-variants.{Some, None}
+use Rattle.std.specs.declared.option.Option.the-variants.{Some}
 use Rattle.std.specs.declared.result.Result.{Result}
 use Rattle.std.specs.declared.result.Result.the-variants.{Ok, Err}
 use Rattle.memory.specs.declared.access.Access.{Access}
@@ -24,10 +23,12 @@ use Rattle.memory.specs.Meaning.{Tx, none, live, doomed, has, wrote, marked, co
 use Rattle.stages.specs.declared.stage.Stage.{Stage}
 use Rattle.stages.specs.Rows.{call-of, begin-of}
 use Rattle.lock.specs.Lock.{goes, advanced}
-use Rattle.board.proofs.Cells.{at, at-same, at-other, at-all, at-all2, clash}
-use Rattle.board.proofs.Held.{mk, cells, reads, writes, in-tx, Valid, Agrees, has-written, has-touched, Apart, Isolated}
+use Rattle.board.proofs.Cells.{at, at-other, at-all, at-all2, clash}
+use Rattle.board.proofs.Held.{mk, cells, reads, writes, in-tx, Valid, Agrees, has-written, has-touched, Apart}
+use Rattle.board.proofs.Held.{Isolated}
 use Rattle.board.proofs.Sound.{Sound}
-use Rattle.board.proofs.Model.{Out, out, lands, seen, seen-on, load-seen, store-seen, begin-seen, read-seen, write-seen}
+use Rattle.board.proofs.Model.{Out, out, lands, seen, seen-on, load-seen, store-seen, begin-seen, read-seen}
+use Rattle.board.proofs.Model.{write-seen}
 use Rattle.board.proofs.Model.{commit-seen, drop-seen}
 use Rattle.board.proofs.Rows.{Holds, Row, row, begin-outside}
 
@@ -71,14 +72,17 @@ has-push-false {X} g (y ∷ xs) x b h n = go (cases-eq (g y) b) (has-push-false 
 
 -- Transactions.
 
+-- an open transaction that has not touched a cell has neither written nor marked it
 touched-parts : (r : List ℕ) (w : List Write) (b : ℕ) → has-touched b (live r w) ≡ false
     → (wrote w b ≡ false) × (marked r b ≡ false)
 touched-parts r w b h = (grind arith, grind arith)
 
+-- and the other way round
 touched-from : (r : List ℕ) (w : List Write) (b : ℕ) → wrote w b ≡ false → marked r b ≡ false
     → has-touched b (live r w) ≡ false
 touched-from r w b h k = rw (h, k)
 
+-- what is written is touched
 written-touched : (t : Tx) (a : ℕ) → has-written a t ≡ true → has-touched a t ≡ true
 written-touched none a h = h
 written-touched doomed a h = h
@@ -96,10 +100,12 @@ lands-other (e ∷ w) f a h = go (cases-eq (e .cell) a) (lands-other w (at f (e 
     go (inr n) ih = ih (rw (ne-eqb (e .cell) a n) at h) ∙ at-other f (e .cell) (e .value) a (λ q. n (sym q))
 
 -- values read stay valid where their cells keep their values
-valid-frame : (f g : ℕ → ℕ) (l : List Write) → ((a : ℕ) → marked (cells l) a ≡ true → g a ≡ f a) → Valid f l → Valid g l
+valid-frame : (f g : ℕ → ℕ) (l : List Write) → ((a : ℕ) → marked (cells l) a ≡ true → g a ≡ f a)
+    → Valid f l → Valid g l
 valid-frame f g [] h v = tt
 valid-frame f g (e ∷ l) h v =
-  (h (e .cell) (rw (eq-eqb (e .cell) (e .cell) refl)) ∙ v .0, valid-frame f g l (λ a m. h a (grind (arith, tells))) (v .1))
+  ( h (e .cell) (rw (eq-eqb (e .cell) (e .cell) refl)) ∙ v .0
+  , valid-frame f g l (λ a m. h a (grind (arith, tells))) (v .1) )
 
 -- a transaction agrees with its stage where the cells that it touched keep their values
 agrees-frame : (f g : ℕ → ℕ) (s : Stage) (t : Tx) → ((a : ℕ) → has-touched a t ≡ true → g a ≡ f a)
@@ -163,6 +169,7 @@ miss-writes none a = refl
 miss-writes doomed a = refl
 miss-writes (live r w) a = grind arith
 
+-- transactions that are apart stay so when some are struck
 apart-struck : (t : ℕ → Tx) (k : Access) (x : ℕ) → Apart t → Apart (λ d. struck k x (t d))
 apart-struck t k x h c d a n w =
   struck-touched (t d) (conflicts k x (t d)) a (h c d a n (struck-written (t c) (conflicts k x (t c)) a w))
@@ -182,6 +189,7 @@ apart-set t c u h h1 h2 d e a =
 apart-none : (t : ℕ → Tx) (c : ℕ) → Apart t → Apart (at t c none)
 apart-none t c h = apart-set t c none h (λ d a n w. clash false w refl) (λ d a n w. refl)
 
+-- an open transaction that holds what its stage says
 agrees-holds : (f : ℕ → ℕ) (s : Stage) (r w : List Write) → Holds s r w → Valid f r → Agrees f s (live (cells r) w)
 agrees-holds f s r w h v = (h .0, ap cells (sym (h .1)), sym (h .2), subst (Valid f) (sym (h .1)) v)
 
@@ -211,6 +219,7 @@ module _ (f : ℕ → ℕ) (t : ℕ → Tx) (S : ℕ → Stage) (I : Isolated f 
   mine : (x : Tx) → t c ≡ x → (d b : ℕ) → (d ≡ c → ⊥) → has-written b x ≡ true → has-touched b (t d) ≡ false
   mine x e d b n w = I .apart c d b (λ q. n (sym q)) (rw e w)
 
+  -- and another's against it
   theirs : (x : Tx) → t c ≡ x → (d b : ℕ) → (d ≡ c → ⊥) → has-written b (t d) ≡ true → has-touched b x ≡ false
   theirs x e d b n w = rw e at (I .apart d c b n w)
 
@@ -226,7 +235,8 @@ module _ (f : ℕ → ℕ) (t : ℕ → Tx) (S : ℕ → Stage) (I : Isolated f 
   -- read: one more mark, and the others that wrote the cell are doomed
   read-isolated : (s : Stage) (a : ℕ) → Row c s (call.Read c a) → t c ≡ live (cells (reads s)) (writes s)
       → Valid f (reads s)
-      → Isolated f (at (λ d. struck Reads a (t d)) c (live (cells (reads s) ++ a ∷ []) (writes s))) (at S c (goes s (f a) .0))
+      → Isolated f (at (λ d. struck Reads a (t d)) c (live (cells (reads s) ++ a ∷ []) (writes s)))
+          (at S c (goes s (f a) .0))
   read-isolated s a r e v = record
     { agrees = at-all2 (λ (d : ℕ) (x : Tx) (s : Stage). Agrees f s x) (λ d. struck Reads a (t d)) S c
         (live (cells (reads s) ++ a ∷ []) (writes s)) (goes s (f a) .0)
@@ -236,7 +246,8 @@ module _ (f : ℕ → ℕ) (t : ℕ → Tx) (S : ℕ → Stage) (I : Isolated f 
         (λ d _. agrees-struck f (S d) Reads a (t d) (I .agrees d))
     ; apart = apart-set (λ d. struck Reads a (t d)) c (live (cells (reads s) ++ a ∷ []) (writes s))
         (apart-struck t Reads a (I .apart))
-        (λ d b n h. struck-touched (t d) (conflicts Reads a (t d)) b (mine (live (cells (reads s)) (writes s)) e d b n h))
+        (λ d b n h. struck-touched (t d) (conflicts Reads a (t d)) b
+          (mine (live (cells (reads s)) (writes s)) e d b n h))
         unmarked }
     where
       unmarked : (d b : ℕ) → (d ≡ c → ⊥) → has-written b (struck Reads a (t d)) ≡ true
@@ -249,6 +260,7 @@ module _ (f : ℕ → ℕ) (t : ℕ → Tx) (S : ℕ → Stage) (I : Isolated f 
             (λ q. clash (has-written b (struck Reads a (t d))) h
               (subst (λ (y : ℕ). has-written y (struck Reads a (t d)) ≡ false) q (miss-reads (t d) a))))
 
+  -- a read of a row
   step-read : (s : Stage) (a : ℕ) → Row c s (call.Read c a) → (x : Tx) → t c ≡ x → Agrees f s x
       → After s (read-seen c a f t x)
   step-read s a r none e k = clash (in-tx s) (r .1) k
@@ -259,7 +271,8 @@ module _ (f : ℕ → ℕ) (t : ℕ → Tx) (S : ℕ → Stage) (I : Isolated f 
   -- write: one more write, and the others that touched the cell are doomed
   write-isolated : (s : Stage) (a v : ℕ) → Row c s (call.Write c a v) → t c ≡ live (cells (reads s)) (writes s)
       → Valid f (reads s)
-      → Isolated f (at (λ d. struck Writes a (t d)) c (live (cells (reads s)) (writes s ++ mk a v ∷ []))) (at S c (goes s 0 .0))
+      → Isolated f (at (λ d. struck Writes a (t d)) c (live (cells (reads s)) (writes s ++ mk a v ∷ [])))
+          (at S c (goes s 0 .0))
   write-isolated s a v r e h = record
     { agrees = at-all2 (λ (d : ℕ) (x : Tx) (s : Stage). Agrees f s x) (λ d. struck Writes a (t d)) S c
         (live (cells (reads s)) (writes s ++ mk a v ∷ [])) (goes s 0 .0)
@@ -287,6 +300,7 @@ module _ (f : ℕ → ℕ) (t : ℕ → Tx) (S : ℕ → Stage) (I : Isolated f 
               (subst (λ (y : ℕ). has-touched y (struck Writes a (t d)) ≡ false) q (miss-writes (t d) a))))
           (p .1)
 
+  -- a write of a row
   step-write : (s : Stage) (a v : ℕ) → Row c s (call.Write c a v) → (x : Tx) → t c ≡ x → Agrees f s x
       → After s (write-seen c a v f t x)
   step-write s a v r none e k = clash (in-tx s) (r .1) k
@@ -295,7 +309,8 @@ module _ (f : ℕ → ℕ) (t : ℕ → Tx) (S : ℕ → Stage) (I : Isolated f 
     rw (k .1, k .2, r .2) (write-isolated s a v r (rw (k .1, k .2) at e) (k .3), tt)
 
   -- commit: what it wrote, no other has touched
-  step-commit : (s : Stage) → Row c s (call.Commit c) → (x : Tx) → t c ≡ x → Agrees f s x → After s (commit-seen c f t x)
+  step-commit : (s : Stage) → Row c s (call.Commit c) → (x : Tx) → t c ≡ x → Agrees f s x
+      → After s (commit-seen c f t x)
   step-commit s r none e k = clash (in-tx s) (r .1) k
   step-commit s r doomed e k = (closed (begin-of s) (begin-outside s), refl)
   step-commit s r (live m w) e k = (record
@@ -316,6 +331,7 @@ module _ (f : ℕ → ℕ) (t : ℕ → Tx) (S : ℕ → Stage) (I : Isolated f 
         (λ d _. agrees-struck f (S d) Reads a (t d) (I .agrees d))
     ; apart = apart-none (λ d. struck Reads a (t d)) c (apart-struck t Reads a (I .apart)) }
 
+  -- a load of a row
   step-load : (s : Stage) (a : ℕ) → Row c s (call.Load c a) → (x : Tx) → Agrees f s x → After s (load-seen c a f t x)
   step-load s a r none k = (load-closed a (goes s (f a) .0) (r .2 (f a)), tt)
   step-load s a r doomed k = clash (in-tx s) k (r .1)
@@ -325,16 +341,18 @@ module _ (f : ℕ → ℕ) (t : ℕ → Tx) (S : ℕ → Stage) (I : Isolated f 
   store-closed : (a v : ℕ) (s : Stage) → in-tx s ≡ false
       → Isolated (at f a v) (at (λ d. struck Writes a (t d)) c none) (at S c s)
   store-closed a v s h = record
-    { agrees = at-all2 (λ (d : ℕ) (x : Tx) (s : Stage). Agrees (at f a v) s x) (λ d. struck Writes a (t d)) S c none s h
-        (λ d _. agrees-store f (S d) a v (t d) (I .agrees d))
+    { agrees = at-all2 (λ (d : ℕ) (x : Tx) (s : Stage). Agrees (at f a v) s x) (λ d. struck Writes a (t d)) S c
+        none s h (λ d _. agrees-store f (S d) a v (t d) (I .agrees d))
     ; apart = apart-none (λ d. struck Writes a (t d)) c (apart-struck t Writes a (I .apart)) }
 
+  -- a store of a row
   step-store : (s : Stage) (a v : ℕ) → Row c s (call.Store c a v) → (x : Tx) → Agrees f s x
       → After s (store-seen c a v f t x)
   step-store s a v r none k = (store-closed a v (goes s 0 .0) (r .2 0), tt)
   step-store s a v r doomed k = clash (in-tx s) k (r .1)
   step-store s a v r (live m w) k = clash (in-tx s) (k .0) (r .1)
 
+  -- every row's call
   step-on : (s : Stage) (k : MemoryCall) → Row c s k → Agrees f s (t c) → After s (seen-on k f t (t c))
   step-on s call.Clear r h = absurd r
   step-on s (call.Look a) r h = absurd r
@@ -349,8 +367,8 @@ module _ (f : ℕ → ℕ) (t : ℕ → Tx) (S : ℕ → Stage) (I : Isolated f 
   -- a stage of card c outside of a transaction, changed to another
   pub restaged : (s : Stage) → in-tx (S c) ≡ false → in-tx s ≡ false → Isolated f t (at S c s)
   restaged s h k = record
-    { agrees = at-all (λ (d : ℕ) (s : Stage). Agrees f s (t d)) S c s (go (t c) (outside f (S c) (t c) h (I .agrees c)))
-        (λ d _. I .agrees d)
+    { agrees = at-all (λ (d : ℕ) (s : Stage). Agrees f s (t d)) S c s
+        (go (t c) (outside f (S c) (t c) h (I .agrees c))) (λ d _. I .agrees d)
     ; apart = I .apart }
     where
       go : (x : Tx) → x ≡ none → Agrees f s x
@@ -379,17 +397,20 @@ module _ (f : ℕ → ℕ) (t : ℕ → Tx) (S : ℕ → Stage) (I : Isolated f 
   same : at S c (S c) ≡ S
   same = fun-ext (λ d. at-all (λ (d : ℕ) (s : Stage). s ≡ S d) S c (S c) refl (λ d n. refl) d)
 
+  -- a load by a card outside of a transaction
   pub load-isolated : (a : ℕ) → in-tx (S c) ≡ false
       → Isolated (seen c (call.Load c a) f t .cell) (seen c (call.Load c a) f t .tx) S
   load-isolated a h = subst (λ (o : Out). Isolated (o .cell) (o .tx) S) (sym (load-accepted a h))
     (subst (λ (S : ℕ → Stage). Isolated f (at (λ d. struck Reads a (t d)) c none) S) same (load-closed a (S c) h))
 
+  -- a store by a card outside of a transaction
   pub store-isolated : (a v : ℕ) → in-tx (S c) ≡ false
       → Isolated (seen c (call.Store c a v) f t .cell) (seen c (call.Store c a v) f t .tx) S
   store-isolated a v h = subst (λ (o : Out). Isolated (o .cell) (o .tx) S) (sym (store-accepted a v h))
     (subst (λ (S : ℕ → Stage). Isolated (at f a v) (at (λ d. struck Writes a (t d)) c none) S) same
       (store-closed a v (S c) h))
 
+  -- a drop by a card inside of a transaction, which goes to its begin
   pub drop-isolated : in-tx (S c) ≡ true
       → Isolated (seen c (call.Drop c) f t .cell) (seen c (call.Drop c) f t .tx) (at S c (begin-of (S c)))
   drop-isolated h =

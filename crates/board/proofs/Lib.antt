@@ -25,3 +25,4 @@ pub mod Wakes
 pub mod Laws
 pub mod Walks
 pub mod Stores
+pub mod Counts

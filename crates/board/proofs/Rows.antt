@@ -1,10 +1,9 @@
 -- The table of steps against what an open transaction holds: each row adds just its own cell, and stays in range.
 use mathlib.Core.Path.{_≡_, refl, sym, subst}
-use mathlib.Core.Bool.{Bool, true, false, cond}
+use mathlib.Core.Bool.{true, false}
 use mathlib.Core.List.{List, [], _∷_, _++_}
-use Prim.Native.Nat.{ℕ, zero, suc, _+_, _*_, _≤_, _<_}
+use Prim.Native.Nat.{ℕ, zero, suc, _+_, _*_, _≤_}
 use native.Mathlib.Omega.{arith}
-use lib.Dec.{eqb, ltb}
 use Rattle.std.proofs.shelf.Ways.{tells}
 use Rattle.std.specs.declared.option.Option.{Option}
 use Rattle.std.specs.declared.option.Option.the-variants.{Some, None}
@@ -12,7 +11,6 @@ use Rattle.memory.specs.declared.write.Write.{Write}
 use Rattle.memory.specs.declared.call.MemoryCall.{MemoryCall}
 use Rattle.memory.specs.declared.call.MemoryCall.the-variants as call
 use Rattle.memory.specs.Meaning.{Tx, none, live, doomed, value-in, marking, recording}
-use Rattle.stages.specs.declared.layout.Field.the-variants.{Next, Prev, State, Spin}
 use Rattle.stages.specs.declared.stage.Mode.the-variants as mode
 use Rattle.stages.specs.declared.stage.WriterEntry.the-variants.{W1, W2, W3, W4, W5, W6}
 use Rattle.stages.specs.declared.stage.ReaderEntry.the-variants.{R1, R2, R3, R4, R5, R6, R7}
@@ -26,7 +24,7 @@ use Rattle.stages.specs.declared.stage.Stage.the-variants.{WriterLeaves, Reader
 use Rattle.stages.specs.Rows.{call-of, begin-of, in-transaction}
 use Rattle.lock.specs.Lock.{goes}
 use Rattle.board.proofs.Held.{mk, cells, reads, writes, in-tx, Agrees}
-use Rattle.board.proofs.Sound.{Named, Sound}
+use Rattle.board.proofs.Sound.{Sound}
 use Rattle.board.proofs.Bridge.{Below, Recorded, Ranged}
 
 -- inside a transaction with these reads and writes
@@ -50,11 +48,12 @@ Row c s (call.Write d a x) =
 Row c s (call.Commit d) = (d ≡ c) × (in-tx s ≡ true) × ((v : ℕ) → in-tx (goes s v .0) ≡ false)
 Row c s (call.Drop d) = ⊥
 
--- a stage without a call is outside of a transaction
+-- the same of a stage's row, if it has one; a stage without a call is outside of a transaction
 abbrev RowOf : ℕ → Stage → Option MemoryCall → Type 0
 RowOf c s None = in-tx s ≡ false
 RowOf c s (Some k) = Row c s k
 
+-- the rows, one by one; a stage that is not sound has none
 row-of : (N K c : ℕ) (s : Stage) → Sound N K s → RowOf c s (call-of N c s)
 row-of N K c Idle h = refl
 row-of N K c (WriterEnters n W1) h = (refl, refl, λ v. (refl, refl, refl))
@@ -74,7 +73,8 @@ row-of N K c (ReaderEnters n (R4 p)) h = (refl, refl, grind (arith, tells), λ v
 row-of N K c (ReaderEnters n (R5 zero)) h = absurd (h .1)
 row-of N K c (ReaderEnters n (R5 (suc m))) h = (refl, refl, grind (arith, tells), λ v. (refl, refl, refl))
 row-of N K c (ReaderEnters n (R6 zero)) h = absurd (h .1)
-row-of N K c (ReaderEnters n (R6 (suc m))) h = (refl, refl, grind (arith, tells), grind (arith, tells), λ v. (refl, refl, refl))
+row-of N K c (ReaderEnters n (R6 (suc m))) h =
+  (refl, refl, grind (arith, tells), grind (arith, tells), λ v. (refl, refl, refl))
 row-of N K c (ReaderEnters n (R7 zero s)) h = (refl, refl, λ v. refl)
 row-of N K c (ReaderEnters n (R7 (suc m) s)) h = (refl, refl, λ v. grind (arith, tells))
 row-of N K c (ReaderEnters n R8) h = (refl, refl, elim [ zero ↦ refl | suc v ↦ refl ])
@@ -108,7 +108,8 @@ row-of N K c (ReaderLeaves n (Y5 (suc m) zero)) h = (refl, refl, grind (arith, t
 row-of N K c (ReaderLeaves n (Y5 zero (suc k))) h = (refl, refl, refl, λ v. (refl, refl, refl))
 row-of N K c (ReaderLeaves n (Y5 (suc m) (suc k))) h = (refl, refl, grind (arith, tells), λ v. (refl, refl, refl))
 row-of N K c (ReaderLeaves n (Y6 zero zero)) h = absurd (h .2)
-row-of N K c (ReaderLeaves n (Y6 zero (suc k))) h = (refl, refl, grind (arith, tells), grind (arith, tells), λ v. (refl, refl, refl))
+row-of N K c (ReaderLeaves n (Y6 zero (suc k))) h =
+  (refl, refl, grind (arith, tells), grind (arith, tells), λ v. (refl, refl, refl))
 row-of N K c (ReaderLeaves n (Y6 (suc m) q)) h = let e = h .1 in absurd (omega arith)
 row-of N K c (ReaderLeaves n (Y7 p zero s)) h = (refl, refl, λ v. refl)
 row-of N K c (ReaderLeaves n (Y7 zero (suc k) s)) h = (refl, refl, λ v. grind (arith, tells))
@@ -195,9 +196,11 @@ writes-below N K (ReaderEnters n (R3 p)) h = tt
 writes-below N K (ReaderEnters n (R4 p)) h = (omega arith, tt)
 writes-below N K (ReaderEnters n (R5 p)) h = let n-in = h .0 in (omega arith, (omega arith, tt))
 writes-below N K (ReaderEnters n (R6 zero)) h = tt
-writes-below N K (ReaderEnters n (R6 (suc m))) h = let n-in = h .0 in let m-in = h .1 in (omega arith, (omega arith, (omega arith, tt)))
+writes-below N K (ReaderEnters n (R6 (suc m))) h =
+  let n-in = h .0 in let m-in = h .1 in (omega arith, (omega arith, (omega arith, tt)))
 writes-below N K (ReaderEnters n (R7 zero s)) h = (omega arith, tt)
-writes-below N K (ReaderEnters n (R7 (suc m) s)) h = let n-in = h .0 in let m-in = h .1 in (omega arith, (omega arith, (omega arith, tt)))
+writes-below N K (ReaderEnters n (R7 (suc m) s)) h =
+  let n-in = h .0 in let m-in = h .1 in (omega arith, (omega arith, (omega arith, tt)))
 writes-below N K (ReaderEnters n R8) h = tt
 writes-below N K (ReaderEnters n R9) h = tt
 writes-below N K (ReaderEnters n R10) h = tt
@@ -224,11 +227,13 @@ writes-below N K (ReaderLeaves n (Y6 p (suc k))) h = let k-in = h .2 in (omega a
 writes-below N K (ReaderLeaves n (Y7 zero zero s)) h = (omega arith, tt)
 writes-below N K (ReaderLeaves n (Y7 zero (suc k) s)) h = let k-in = h .2 in (omega arith, tt)
 writes-below N K (ReaderLeaves n (Y7 (suc m) zero s)) h = let m-in = h .1 in (omega arith, (omega arith, tt))
-writes-below N K (ReaderLeaves n (Y7 (suc m) (suc k) s)) h = let m-in = h .1 in let k-in = h .2 in (omega arith, (omega arith, tt))
+writes-below N K (ReaderLeaves n (Y7 (suc m) (suc k) s)) h =
+  let m-in = h .1 in let k-in = h .2 in (omega arith, (omega arith, tt))
 writes-below N K (ReaderLeaves n (Y8 q)) h = tt
 writes-below N K (Adds n (A1 k x)) h = tt
 writes-below N K (Adds n (A2 k x v)) h = tt
 
+-- what lies below a lies below more
 below-more : (a b : ℕ) → a ≤ b → (ws : List Write) → Below a ws → Below b ws
 below-more a b l [] h = tt
 below-more a b l (w ∷ ws) h = let i = h .0 in (omega arith, below-more a b l ws (h .1))
@@ -240,6 +245,7 @@ recorded N K f s doomed l h k = tt
 recorded N K f s (live r w) l h k =
   rw (k .2) (below-more (1 + 4 * N) 137 (omega arith) (writes s) (writes-below N K s h))
 
+-- a stage's call, if it has one, is one of card c on a cell that there is
 abbrev RangedOf : ℕ → Option MemoryCall → Type 0
 RangedOf c None = Unit {0}
 RangedOf c (Some k) = Ranged c k
@@ -299,3 +305,7 @@ ranged-of N K c (Adds n (A2 k x v)) a b h = let i = h .1 in (refl, omega arith)
 pub ranged : (N K c : ℕ) (s : Stage) → N ≤ 32 → K ≤ 8 → Sound N K s
     → (k : MemoryCall) → call-of N c s ≡ Some k → Ranged c k
 ranged N K c s a b h k e = subst (RangedOf c) e (ranged-of N K c s a b h)
+
+-- a stage has one call
+pub one-call : (x y : MemoryCall) (o : Option MemoryCall) → o ≡ Some x → o ≡ Some y → x ≡ y
+one-call x y o p q = cc
