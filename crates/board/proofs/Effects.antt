@@ -1,6 +1,6 @@
 -- Which cells a step changes.
 use mathlib.Core.Path.{_≡_, refl, sym, subst, _∙_, ap}
-use mathlib.Core.Bool.{Bool, true, false}
+use mathlib.Core.Bool.{true}
 use mathlib.Core.List.{List, [], _∷_}
 use mathlib.Core.Logic.{_⊎_, inl, inr, ⊎-elim}
 use Prim.Native.Nat.{ℕ, zero, suc, _+_, _*_, _≤_, _<_}
@@ -16,16 +16,19 @@ use Rattle.stages.specs.declared.layout.Field.{Field}
 use Rattle.stages.specs.declared.layout.Field.the-variants.{Next, Prev, State, Spin}
 use Rattle.stages.specs.declared.stage.Mode.the-variants as mode
 use Rattle.stages.specs.declared.stage.WriterEntry.the-variants.{W1, W2, W3, W4, W5, W6}
-use Rattle.stages.specs.declared.stage.ReaderEntry.the-variants.{R1, R2, R3, R4, R5, R6, R7, R8, R9, R10, R11, R12, R13, R14}
+use Rattle.stages.specs.declared.stage.ReaderEntry.the-variants.{R1, R2, R3, R4, R5, R6, R7}
+use Rattle.stages.specs.declared.stage.ReaderEntry.the-variants.{R8, R9, R10, R11, R12, R13, R14}
 use Rattle.stages.specs.declared.stage.Addition.the-variants.{A1, A2}
 use Rattle.stages.specs.declared.stage.WriterExit.the-variants.{X1, X2, X3, X4, X5}
 use Rattle.stages.specs.declared.stage.ReaderExit.the-variants.{Y1, Y2, Y3, Y4, Y5, Y6, Y7, Y8}
 use Rattle.stages.specs.declared.stage.Stage.{Stage}
-use Rattle.stages.specs.declared.stage.Stage.the-variants.{Idle, WriterEnters, ReaderEnters, Inside, Adds, WriterLeaves, ReaderLeaves}
+use Rattle.stages.specs.declared.stage.Stage.the-variants.{Idle, WriterEnters, ReaderEnters, Inside}
+use Rattle.stages.specs.declared.stage.Stage.the-variants.{Adds, WriterLeaves, ReaderLeaves}
 use Rattle.stages.specs.Layout.{cell-of, node-cell, counter-cell}
 use Rattle.stages.specs.Rows.{call-of, capped}
 use Rattle.board.proofs.Cells.{at, at-other, next, prev, state, spin}
-use Rattle.board.proofs.Views.{View, view, comesR, holdsW, turnR, activeR, wakesR, hands, node, link, joined, reader, target}
+use Rattle.board.proofs.Views.{View, view, comesR, holdsW, turnR, activeR, wakesR}
+use Rattle.board.proofs.Views.{hands, node, link, joined, reader, target}
 use Rattle.board.proofs.Chain.{Spot, End, who, Line, chain-end, chain-behind, chain-place}
 use Rattle.board.proofs.Held.{reads, writes, Valid, Agrees}
 use Rattle.board.proofs.Model.{Out, seen, seen-on, commit-seen, lands}
@@ -212,13 +215,16 @@ module _ (N : ℕ) (f : ℕ → ℕ) (t : ℕ → Tx) (S : ℕ → Stage) (l : L
   changes (ReaderLeaves n (Y4 p q)) e x k = soft (ReaderLeaves n (Y4 p q)) (call.Write c (cell-of p Next) q) tt x
   changes (ReaderLeaves n (Y5 p q)) e x k = soft (ReaderLeaves n (Y5 p q)) (call.Write c (cell-of q Prev) p) tt x
   changes (ReaderLeaves n (Y6 p q)) e x k = soft (ReaderLeaves n (Y6 p q)) (call.Read c (cell-of q State)) tt x
-  changes (ReaderLeaves n (Y7 zero zero s)) e x k = commits (ReaderLeaves n (Y7 zero zero s)) (λ h. (inl refl, tt)) x k
+  changes (ReaderLeaves n (Y7 zero zero s)) e x k = commits (ReaderLeaves n (Y7 zero zero s))
+    (λ h. (inl refl, tt)) x k
   changes (ReaderLeaves n (Y7 zero (suc j) s)) e x k =
-    commits (ReaderLeaves n (Y7 zero (suc j) s)) (λ h. (behind n j (activeR n) (ap view e) refl refl (h .1 .0), tt)) x k
+    commits (ReaderLeaves n (Y7 zero (suc j) s)) (λ h. (behind n j (activeR n) (ap view e) refl refl (h .1 .0), tt)) x
+      k
   changes (ReaderLeaves n (Y7 (suc m) zero s)) e x k =
     commits (ReaderLeaves n (Y7 (suc m) zero s)) (λ h. (ahead n m (ap view e) (h .0), (inl refl, tt))) x k
   changes (ReaderLeaves n (Y7 (suc m) (suc j) s)) e x k =
-    commits (ReaderLeaves n (Y7 (suc m) (suc j) s)) (λ h. (ahead n m (ap view e) (h .0), (behind n j (activeR n) (ap view e) refl refl (h .1 .0), tt))) x k
+    commits (ReaderLeaves n (Y7 (suc m) (suc j) s))
+      (λ h. (ahead n m (ap view e) (h .0), (behind n j (activeR n) (ap view e) refl refl (h .1 .0), tt))) x k
   changes (ReaderLeaves n (Y8 zero)) e x k = stored (ReaderLeaves n (Y8 zero)) 0 0 (inl (inl refl)) x
   changes (ReaderLeaves n (Y8 (suc m))) e x k =
     stored (ReaderLeaves n (Y8 (suc m))) (spin m) 0 (inl (handed-spin n m (ap view e))) x

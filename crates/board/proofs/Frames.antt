@@ -2,26 +2,24 @@
 use mathlib.Core.Path.{_≡_, refl, sym, subst, _∙_, ap, fun-ext}
 use mathlib.Core.Bool.{Bool, true, false, cond}
 use mathlib.Core.List.{List, [], _∷_}
-use mathlib.Core.Logic.{_⊎_, inl, inr, ⊎-elim}
-use Prim.Native.Nat.{ℕ, zero, suc, _+_, _*_, _≤_, _<_}
+use mathlib.Core.Logic.{_⊎_, inl, inr}
+use Prim.Native.Nat.{ℕ, zero, suc, _+_, _*_, _≤_}
 use lib.ListN.{getD}
 use native.Mathlib.Omega.{arith}
 use Rattle.std.proofs.shelf.Ways.{tells}
 use Rattle.stages.specs.declared.stage.Mode.{Mode}
 use Rattle.stages.specs.declared.stage.Mode.the-variants.{Read, Write}
-use Rattle.stages.specs.declared.stage.WriterEntry.the-variants.{W1}
-use Rattle.stages.specs.declared.stage.ReaderEntry.the-variants.{R1}
 use Rattle.stages.specs.declared.stage.Addition.the-variants.{A1}
 use Rattle.stages.specs.declared.stage.WriterExit.the-variants.{X1}
 use Rattle.stages.specs.declared.stage.ReaderExit.the-variants.{Y1}
 use Rattle.stages.specs.declared.stage.Stage.{Stage}
-use Rattle.stages.specs.declared.stage.Stage.the-variants.{Idle, WriterEnters, ReaderEnters, Inside, Adds, WriterLeaves, ReaderLeaves}
+use Rattle.stages.specs.declared.stage.Stage.the-variants.{Idle, Inside, Adds, WriterLeaves, ReaderLeaves}
 use Rattle.stages.specs.Rows.{begin-of}
 use Rattle.lock.specs.declared.values.NodeValues.{NodeValues}
 use Rattle.lock.specs.Lock.{LockState, stage-of, idle-card, free, has-node, entry-stores, reuse-stores, first-stage}
 use Rattle.stages.specs.declared.stage.Card.{Card}
-use Rattle.board.proofs.Cells.{at, at-same, at-other, at-all, clash, next, prev, state, spin}
-use Rattle.board.proofs.Views.{View, view, away, node, link, joined, hand, Cells}
+use Rattle.board.proofs.Cells.{at, at-other, at-all, clash, next, prev, state, spin}
+use Rattle.board.proofs.Views.{View, view, node, link, joined, hand, Cells}
 use Rattle.board.proofs.Chain.{Line, Like, like-line, Nodes}
 use Rattle.board.proofs.Links.{views, view-at, view-begin, has-link}
 use Rattle.board.proofs.Steps.{Same-node, frame-line, like-refl}
@@ -80,7 +78,8 @@ stored-line f V l n (w ∷ ws) h u L =
   stored-line (at f (w .0) (w .1)) V l n ws (h .1) u (store-line f V l n (w .0) (w .1) (h .0) u L)
 
 -- they change no cell of another node, nor the tail or a counter
-pub stored-other : (f : ℕ → ℕ) (n a : ℕ) (ws : List (ℕ × ℕ)) → All-within n ws → (Within n a → ⊥) → stored ws f a ≡ f a
+pub stored-other : (f : ℕ → ℕ) (n a : ℕ) (ws : List (ℕ × ℕ)) → All-within n ws → (Within n a → ⊥)
+    → stored ws f a ≡ f a
 stored-other f n a [] h o = refl
 stored-other f n a (w ∷ ws) h o = stored-other (at f (w .0) (w .1)) n a ws (h .1) o
   ∙ at-other f (w .0) (w .1) a (λ e. o (subst (Within n) (sym e) (h .0)))

@@ -1,15 +1,16 @@
 -- A card joins the line at its end.
 use mathlib.Core.Path.{_≡_, refl, sym, subst, _∙_, ap}
-use mathlib.Core.Bool.{Bool, true, false, cond, _||_}
+use mathlib.Core.Bool.{true, false}
 use mathlib.Core.List.{List, [], _∷_, _++_}
 use mathlib.Core.Logic.{_⊎_, inl, inr, ⊎-elim}
-use Prim.Native.Nat.{ℕ, zero, suc, _+_, _*_, _-_, _≤_, _<_}
+use Prim.Native.Nat.{ℕ, zero, suc, _+_}
 use native.Mathlib.Omega.{arith}
-use Rattle.std.proofs.shelf.Tests.{cases-eq}
 use Rattle.board.proofs.Cells.{at, next, prev, state, spin}
 use Rattle.board.proofs.Cells.{at-same, at-other, at-all, clash}
-use Rattle.board.proofs.Views.{View, away, comesW, comesR, waitsW, waitsR, holdsW, turnR, activeR, seesR, wakesR, hands, node, link, joined, reader, active, target, waking, hand, granted, Cells}
-use Rattle.board.proofs.Chain.{Spot, End, who, Chain, In, Once, Ok, granted-frame, chain-join, chain-joined, chain-end, Led, Due, Baton, Nodes, Line, Seat, Front, seat-place, front-end}
+use Rattle.board.proofs.Views.{View, away, comesW, comesR, waitsW, waitsR, holdsW, turnR, activeR, seesR, wakesR}
+use Rattle.board.proofs.Views.{hands, node, link, joined, reader, active, target, hand, granted, Cells}
+use Rattle.board.proofs.Chain.{Spot, End, who, Chain, In, Once, Ok, chain-join, chain-joined}
+use Rattle.board.proofs.Chain.{chain-end, Led, Due, Baton, Line, Seat, Front, seat-place}
 use Rattle.board.proofs.Moves.{joined-link, node-is, cells-frame, seat-frame, front-frame, nodes-at}
 
 in-join : (c d : ℕ) (l : List ℕ) → In c l → In c (l ++ (d ∷ []))
@@ -29,10 +30,12 @@ in-split c d (a ∷ l) (inr i) = ⊎-elim (λ j. inl (inr j)) inr (in-split c d 
 
 once-join : (d : ℕ) (l : List ℕ) → Once l → (In d l → ⊥) → Once (l ++ (d ∷ []))
 once-join d [] u n = (λ i. i, tt)
-once-join d (a ∷ l) u n = (λ i. ⊎-elim (u .0) (λ e. n (inl (sym e))) (in-split a d l i), once-join d l (u .1) (λ i. n (inr i)))
+once-join d (a ∷ l) u n = (λ i. ⊎-elim (u .0) (λ e. n (inl (sym e))) (in-split a d l i),
+    once-join d l (u .1) (λ i. n (inr i)))
 
 -- an active reader is one whose state stands at 3
-pub active-state : (f : ℕ → ℕ) (v : View) → joined v ≡ true → Cells f v → (active v ≡ true → f (state (node v)) ≡ 3) × (f (state (node v)) ≡ 3 → active v ≡ true)
+pub active-state : (f : ℕ → ℕ) (v : View) → joined v ≡ true → Cells f v
+    → (active v ≡ true → f (state (node v)) ≡ 3) × (f (state (node v)) ≡ 3 → active v ≡ true)
 active-state f away j k = clash false j refl
 active-state f (comesW n) j k = clash false j refl
 active-state f (comesR n) j k = clash false j refl
@@ -48,7 +51,8 @@ active-state f (hands n q) j k = clash false j refl
 module _ (f g : ℕ → ℕ) (V : ℕ → View) (l : List ℕ) (I : Line f V l) (c n : ℕ) (u : View)
     (jc : joined (V c) ≡ false) (lc : link (V c) ≡ suc n) (hc : hand (V c) ≡ 0) (nc : f (next n) ≡ 0)
     (ju : joined u ≡ true) (lu : link u ≡ suc n) (nu : node u ≡ n) (tu : target u ≡ 0) (hu : hand u ≡ 0)
-    (tail : g 0 ≡ suc n) (linked : (m : ℕ) → f 0 ≡ suc m → g (next m) ≡ suc n) (back : reader u ≡ true → g (prev n) ≡ f 0)
+    (tail : g 0 ≡ suc n) (linked : (m : ℕ) → f 0 ≡ suc m → g (next m) ≡ suc n)
+        (back : reader u ≡ true → g (prev n) ≡ f 0)
     (keep : (a : ℕ) → (a ≡ 0 → ⊥) → (a ≡ prev n → ⊥) → ((m : ℕ) → f 0 ≡ suc m → a ≡ next m → ⊥) → g a ≡ f a)
     (stand : Cells g u)
     (led : f 0 ≡ 0 → granted g u ≡ true)
@@ -65,9 +69,12 @@ module _ (f g : ℕ → ℕ) (V : ℕ → View) (l : List ℕ) (I : Line f V l) 
   tail-card : (m : ℕ) → f 0 ≡ suc m → (d : ℕ) × (joined (V d) ≡ true) × (link (V d) ≡ suc m) × (f (next m) ≡ 0)
   tail-card m e = let w = chain-end f V l 0 tt (I .chain) in go (w .0) (w .1) (w .2)
     where
-      go : (p : ℕ) → Ok V p → End f (who V p) → (d : ℕ) × (joined (V d) ≡ true) × (link (V d) ≡ suc m) × (f (next m) ≡ 0)
+      go : (p : ℕ) → Ok V p → End f (who V p) → (d : ℕ) × (joined (V d) ≡ true) × (link (V d) ≡ suc m)
+          × (f (next m) ≡ 0)
       go zero o E = let t = E .tail in absurd (omega arith)
-      go (suc d) o E = let k = sym (E .tail) ∙ e in (d, o, k, ⊎-elim (λ z. absurd (omega arith)) (λ h. ap (λ (x : ℕ). f (next x)) (sym (node-is (V d) m o k)) ∙ h) (E .last))
+      go (suc d) o E = let k = sym (E .tail) ∙ e in
+        (d, o, k, ⊎-elim (λ z. absurd (omega arith)) (λ h. ap (λ (x : ℕ). f (next x)) (sym (node-is (V d) m o k)) ∙ h)
+          (E .last))
 
   apart-node : (d : ℕ) → (d ≡ c → ⊥) → link (V d) ≡ suc (node (V d)) → node (V d) ≡ n → ⊥
   apart-node d nd q e = ⊎-elim nd (λ z. omega arith) (I .nodes d c (q ∙ ap suc e ∙ sym lc))
@@ -82,18 +89,23 @@ module _ (f g : ℕ → ℕ) (V : ℕ → View) (l : List ℕ) (I : Line f V l) 
   k-next k h = keep (next k) (omega arith) (omega arith) (λ m e q. h m e (omega arith))
 
   k-seat : (d : ℕ) → joined (V d) ≡ true → Seat f g (V d) (V d)
-  k-seat d j = seat-frame f g (V d) (λ _. k-prev (node (V d)) (apart-node d (other d j) (joined-link (V d) j))) (k-spin (node (V d)))
+  k-seat d j = seat-frame f g (V d) (λ _. k-prev (node (V d)) (apart-node d (other d j) (joined-link (V d) j)))
+    (k-spin (node (V d)))
 
   k-front : (p d : ℕ) → Ok V p → Spot f (who V p) (V d) → Front f g (who V p) (who (at V c u) p)
-  k-front zero d o P = record { link-is = refl; active-is = refl; target-is = refl; waking-is = refl; next-is = inl refl }
+  k-front zero d o P = record { link-is = refl; active-is = refl; target-is = refl; waking-is = refl; next-is =
+      inl refl }
   k-front (suc e) d o P = rw (same e o) (front-frame f g (V e) (k-next (node (V e)) (λ m t q.
     let w = tail-card m t .3 in let j = joined-link (V e) o in let y = joined-link (V d) (P .in-line) in
     ⊎-elim (λ z. omega arith) (λ z. let x = sym (ap (λ (x : ℕ). f (next x)) q) ∙ z in omega arith) (P .from))))
 
   new : (p : ℕ) → Ok V p → End f (who V p) → Spot g (who (at V c u) p) (at V c u c)
   new zero o E = rw (at-same V c u) (record
-    { in-line = ju; from = inl refl; ahead = λ r. subst (λ (x : ℕ). g (prev x) ≡ 0) (sym nu) (back r ∙ E .tail); turnw = λ _ _. refl; turnr = λ _ _. inl refl; aim = inl refl; owed = λ a _ _. clash false a refl })
-  new (suc d) o E = let q = joined-link (V d) o in let t = E .tail ∙ q in let A = active-state f (V d) o (I .cells d) in rw (at-same V c u, same d o) (record
+    { in-line = ju; from = inl refl; ahead = λ r. subst (λ (x : ℕ). g (prev x) ≡ 0) (sym nu)
+        (back r ∙ E .tail); turnw = λ _ _. refl; turnr = λ _ _. inl refl; aim = inl refl; owed =
+        λ a _ _. clash false a refl })
+  new (suc d) o E = let q = joined-link (V d) o in let t = E .tail ∙ q in
+    let A = active-state f (V d) o (I .cells d) in rw (at-same V c u, same d o) (record
     { in-line = ju
     ; from = inr (linked (node (V d)) t ∙ sym lu)
     ; ahead = λ r. subst (λ (x : ℕ). g (prev x) ≡ link (V d)) (sym nu) (back r ∙ E .tail)
@@ -114,17 +126,27 @@ module _ (f g : ℕ → ℕ) (V : ℕ → View) (l : List ℕ) (I : Line f V l) 
   join-hand d = at-all (λ (d : ℕ) (v : View). hand v ≡ hand (V d)) V c u (hu ∙ sym hc) (λ d n. refl) d
 
   join-baton : Baton f V l → Baton g (at V c u) (l ++ (c ∷ []))
-  join-baton (inl k) = inl (λ d. join-hand d ∙ k .0 d, head-led l 0 (I .chain) (k .1) (λ e. subst (λ (k : List ℕ). Chain f V 0 k) e (I .chain) .tail))
-  join-baton (inr k) = inr (k .0, rw (join-hand (k .0)) (k .1), λ e. rw (join-hand e) (k .2 e), rw (join-hand (k .0)) (head-due (hand (V (k .0))) l 0 (I .chain) (k .3)))
+  join-baton (inl k) = inl (λ d. join-hand d ∙ k .0 d, head-led l 0 (I .chain) (k .1)
+      (λ e. subst (λ (k : List ℕ). Chain f V 0 k) e (I .chain) .tail))
+  join-baton (inr k) = inr (k .0, rw (join-hand (k .0)) (k .1), λ e. rw (join-hand e) (k .2 e),
+      rw (join-hand (k .0)) (head-due (hand (V (k .0))) l 0 (I .chain) (k .3)))
 
   pub join-line : Line g (at V c u) (l ++ (c ∷ []))
   join-line = record
     { nodes = nodes-at V c u (inl (lu ∙ sym lc)) (I .nodes)
-    ; cells = at-all (λ (d : ℕ) (v : View). Cells g v) V c u stand (λ d nd. cells-frame f g (V d) (λ _. k-state (node (V d))) (λ _ _. k-spin (node (V d)))
-        (λ q j. k-next (node (V d)) (λ m e h. let T = tail-card m e in ⊎-elim (λ x. clash (joined (V d)) (ap (λ (y : ℕ). joined (V y)) x ∙ T .1) j) (λ z. omega arith) (I .nodes d (T .0) (q ∙ ap suc h ∙ sym (T .2)))))
+    ; cells = at-all (λ (d : ℕ) (v : View). Cells g v) V c u stand
+      (λ d nd. cells-frame f g (V d) (λ _. k-state (node (V d))) (λ _ _. k-spin (node (V d)))
+        (λ q j. k-next (node (V d)) (λ m e h. let T = tail-card m e in
+              ⊎-elim (λ x. clash (joined (V d)) (ap (λ (y : ℕ). joined (V y)) x ∙ T .1) j) (λ z. omega arith)
+              (I .nodes d (T .0) (q ∙ ap suc h ∙ sym (T .2)))))
         (λ q j. k-prev (node (V d)) (apart-node d nd q)) (I .cells d))
-    ; members = at-all (λ (d : ℕ) (v : View). joined v ≡ true → In d (l ++ (c ∷ []))) V c u (λ _. in-last c l) (λ d _ j. in-join d c l (I .members d j))
+    ; members = at-all (λ (d : ℕ) (v : View). joined v ≡ true → In d (l ++ (c ∷ []))) V c u (λ _. in-last c l)
+      (λ d _ j. in-join d c l (I .members d j))
     ; once = once-join c l (I .once) (λ i. clash (joined (V c)) (chain-joined f V l 0 (I .chain) c i) jc)
-    ; chain = chain-join f g V (at V c u) c l (λ p d i o P. rw (same d (P .in-line)) (seat-place f g (who V p) (who (at V c u) p) (V d) (V d) (k-front p d o P) (k-seat d (P .in-line)) P))
-        new (rw (at-same V c u) (record { tail = tail ∙ sym lu; last = inr (ap (λ (x : ℕ). g (next x)) nu ∙ k-next n (λ m e q. let T = tail-card m e in ⊎-elim (λ x. other (T .0) (T .1) x) (λ z. omega arith) (I .nodes (T .0) c (T .2 ∙ ap suc (sym q) ∙ sym lc))) ∙ nc); aimless = tu })) 0 tt (I .chain)
+    ; chain = chain-join f g V (at V c u) c l (λ p d i o P. rw (same d (P .in-line))
+        (seat-place f g (who V p) (who (at V c u) p) (V d) (V d) (k-front p d o P) (k-seat d (P .in-line)) P))
+        new (rw (at-same V c u) (record { tail = tail
+                ∙ sym lu; last = inr (ap (λ (x : ℕ). g (next x)) nu
+                  ∙ k-next n (λ m e q. let T = tail-card m e in ⊎-elim (λ x. other (T .0) (T .1) x) (λ z. omega arith)
+                    (I .nodes (T .0) c (T .2 ∙ ap suc (sym q) ∙ sym lc))) ∙ nc); aimless = tu })) 0 tt (I .chain)
     ; baton = join-baton (I .baton) }

@@ -1,21 +1,21 @@
 -- What a stage's link is, and how the line sees the stages that a card goes to.
 use mathlib.Core.Path.{_≡_, refl, fun-ext}
 use mathlib.Core.Bool.{Bool, true, false, cond}
-use mathlib.Core.Logic.{_⊎_, inl, inr}
 use Prim.Native.Nat.{ℕ, zero, suc, _≤_}
 use lib.Dec.{eqb}
 use native.Mathlib.Omega.{arith}
 use Rattle.stages.specs.declared.stage.Mode.the-variants as mode
 use Rattle.stages.specs.declared.stage.WriterEntry.the-variants.{W1, W2, W3, W4, W5, W6}
-use Rattle.stages.specs.declared.stage.ReaderEntry.the-variants.{R1, R2, R3, R4, R5, R6, R7, R8, R9, R10, R11, R12, R13, R14}
+use Rattle.stages.specs.declared.stage.ReaderEntry.the-variants.{R1, R2, R3, R4, R5, R6, R7}
+use Rattle.stages.specs.declared.stage.ReaderEntry.the-variants.{R8, R9, R10, R11, R12, R13, R14}
 use Rattle.stages.specs.declared.stage.Addition.the-variants.{A1, A2}
 use Rattle.stages.specs.declared.stage.WriterExit.the-variants.{X1, X2, X3, X4, X5}
 use Rattle.stages.specs.declared.stage.ReaderExit.the-variants.{Y1, Y2, Y3, Y4, Y5, Y6, Y7, Y8}
 use Rattle.stages.specs.declared.stage.Stage.{Stage}
-use Rattle.stages.specs.declared.stage.Stage.the-variants.{Idle, WriterEnters, ReaderEnters, Inside, Adds, WriterLeaves, ReaderLeaves}
+use Rattle.stages.specs.declared.stage.Stage.the-variants.{Idle, WriterEnters, ReaderEnters, Inside}
+use Rattle.stages.specs.declared.stage.Stage.the-variants.{Adds, WriterLeaves, ReaderLeaves}
 use Rattle.stages.specs.declared.answer.Answer.the-variants.{Step, In}
-use Rattle.stages.specs.Rows.{begin-of, writer-entry-begin, reader-entry-begin, writer-exit-begin, reader-exit-begin}
-use Rattle.stages.specs.Rows.{writer-entry-goes, reader-entry-goes, addition-goes, writer-exit-goes, reader-exit-goes}
+use Rattle.stages.specs.Rows.{begin-of}
 use Rattle.lock.specs.Lock.{goes, has-node}
 use Rattle.board.specs.Book.{Deed, plain, joins, parts, finishes, deed}
 use Rattle.std.proofs.shelf.Tests.{eq-eqb}

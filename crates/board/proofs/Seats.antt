@@ -3,7 +3,7 @@ use mathlib.Core.Path.{_≡_, refl, sym, subst, _∙_, ap}
 use mathlib.Core.Bool.{Bool, true, false, cond}
 use mathlib.Core.List.{List, [], _∷_, _++_}
 use mathlib.Core.Logic.{_⊎_, inl, inr, ⊎-elim}
-use Prim.Native.Nat.{ℕ, zero, suc}
+use Prim.Native.Nat.{ℕ, suc}
 use lib.Dec.{eqb}
 use Rattle.std.proofs.shelf.Tests.{cases-eq, eq-eqb, ne-eqb}
 use Rattle.std.specs.declared.result.Result.{Result}
@@ -11,13 +11,12 @@ use Rattle.std.specs.declared.result.Result.the-variants.{Ok, Err}
 use Rattle.memory.specs.declared.fault.MemoryFault.{MemoryFault}
 use Rattle.memory.specs.declared.fault.Refusal.{Refusal}
 use Rattle.memory.specs.declared.fault.Refusal.the-variants.{OutOfRange, Already, NoTransaction, Doomed, Full}
-use Rattle.stages.specs.declared.stage.Mode.{Mode}
 use Rattle.stages.specs.declared.stage.Stage.{Stage}
 use Rattle.stages.specs.Rows.{begin-of}
 use Rattle.lock.specs.Lock.{goes, returns-by, advanced}
 use Rattle.board.specs.Book.{Place, Deed, plain, joins, parts, finishes, deed, accepted, lined, without}
 use Rattle.board.proofs.Cells.{at, at-same, at-other, at-all, clash}
-use Rattle.board.proofs.Views.{View, view, link, joined, reader}
+use Rattle.board.proofs.Views.{view, link, joined, reader}
 use Rattle.board.proofs.Chain.{Line, In, Once, chain-joined}
 use Rattle.board.proofs.Chain as chain
 use Rattle.board.proofs.Model.{lined-cards}
@@ -52,7 +51,8 @@ seated-same S c s [] e h = tt
 seated-same S c s (p ∷ l) e h =
   ( at-all (λ (d : ℕ) (x : Stage). link (view (S d)) ≡ suc (p .node) → link (view x) ≡ suc (p .node)) S c s
       (λ q. e .0 ∙ q) (λ d _ q. q) (p .card) (h .0)
-  , at-all (λ (d : ℕ) (x : Stage). reader (view (S d)) ≡ reads-mode (p .mode) → reader (view x) ≡ reads-mode (p .mode))
+  , at-all (λ (d : ℕ) (x : Stage). reader (view (S d)) ≡ reads-mode (p .mode)
+      → reader (view x) ≡ reads-mode (p .mode))
       S c s (λ q. e .1 ∙ q) (λ d _ q. q) (p .card) (h .1)
   , seated-same S c s l e (h .2) )
 
@@ -99,7 +99,8 @@ without-gone c (a ∷ l) u i = go (cases-eq a c) (without-gone c l (u .1))
     go (inr n) r = ⊎-elim (λ e. n (sym e)) r (at-head i false (ne-eqb a c n))
 
 -- every place keeps the node and the mode of its card through a step, whatever the memory answers
-module _ (f : ℕ → ℕ) (S : ℕ → Stage) (l : List Place) (L : Line f (views S) (cards-of l)) (h : Seated S l) (c : ℕ) where
+module _ (f : ℕ → ℕ) (S : ℕ → Stage) (l : List Place) (L : Line f (views S) (cards-of l)) (h : Seated S l)
+  (c : ℕ) where
   out-of-line : joined (view (S c)) ≡ false → In c (cards-of l) → ⊥
   out-of-line j i = clash (joined (view (S c))) (chain-joined f (views S) (cards-of l) 0 (L .chain) c i) j
 

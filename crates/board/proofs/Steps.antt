@@ -2,8 +2,8 @@
 use mathlib.Core.Path.{_≡_, refl, sym, subst, _∙_, ap, fun-ext}
 use mathlib.Core.Bool.{Bool, true, false, cond}
 use mathlib.Core.List.{List, [], _∷_, _++_}
-use mathlib.Core.Logic.{_⊎_, inl, inr, ⊎-elim}
-use Prim.Native.Nat.{ℕ, zero, suc, _+_, _*_, _≤_, _<_}
+use mathlib.Core.Logic.{_⊎_, inl, inr}
+use Prim.Native.Nat.{ℕ, zero, suc, _+_}
 use native.Mathlib.Omega.{arith}
 use lib.Dec.{eqb}
 use Rattle.std.proofs.shelf.Tests.{cases-eq, eq-eqb, ne-eqb}
@@ -20,24 +20,28 @@ use Rattle.memory.specs.declared.call.MemoryCall.the-variants as call
 use Rattle.memory.specs.Meaning.{Tx, none, live, doomed, value-in, marking, recording}
 use Rattle.stages.specs.declared.stage.Mode.the-variants as mode
 use Rattle.stages.specs.declared.stage.WriterEntry.the-variants.{W1, W2, W3, W4, W5, W6}
-use Rattle.stages.specs.declared.stage.ReaderEntry.the-variants.{R1, R2, R3, R4, R5, R6, R7, R8, R9, R10, R11, R12, R13, R14}
+use Rattle.stages.specs.declared.stage.ReaderEntry.the-variants.{R1, R2, R3, R4, R5, R6, R7}
+use Rattle.stages.specs.declared.stage.ReaderEntry.the-variants.{R8, R9, R10, R11, R12, R13, R14}
 use Rattle.stages.specs.declared.stage.Addition.the-variants.{A1, A2}
 use Rattle.stages.specs.declared.stage.WriterExit.the-variants.{X1, X2, X3, X4, X5}
 use Rattle.stages.specs.declared.stage.ReaderExit.the-variants.{Y1, Y2, Y3, Y4, Y5, Y6, Y7, Y8}
 use Rattle.stages.specs.declared.stage.Stage.{Stage}
-use Rattle.stages.specs.declared.stage.Stage.the-variants.{Idle, WriterEnters, ReaderEnters, Inside, Adds, WriterLeaves, ReaderLeaves}
+use Rattle.stages.specs.declared.stage.Stage.the-variants.{Idle, WriterEnters, ReaderEnters, Inside}
+use Rattle.stages.specs.declared.stage.Stage.the-variants.{Adds, WriterLeaves, ReaderLeaves}
 use Rattle.stages.specs.Layout.{counter-cell}
 use Rattle.stages.specs.Rows.{call-of, begin-of, capped}
 use Rattle.lock.specs.Lock.{goes, returns-by, advanced}
-use Rattle.board.specs.Book.{Deed, plain, joins, parts, finishes, deed, accepted}
-use Rattle.board.proofs.Cells.{at, at-same, at-other, at-all, clash, next, prev, state, spin}
-use Rattle.board.proofs.Views.{View, view, away, comesW, comesR, waitsW, waitsR, holdsW, turnR, activeR, seesR, wakesR, hands}
-use Rattle.board.proofs.Views.{node, link, joined, reader, active, target, waking, hand, granted, Cells}
-use Rattle.board.proofs.Chain.{Line, Seat, Front, Like, like-line, without}
+use Rattle.board.specs.Book.{Deed, plain, joins, deed, accepted}
+use Rattle.board.proofs.Cells.{at, at-other, at-all, clash, next, prev, state, spin}
+use Rattle.board.proofs.Views.{View, view, waitsW, waitsR, holdsW, turnR, hands}
+use Rattle.board.proofs.Views.{node, link, Cells}
+use Rattle.board.proofs.Chain.{Line, Like, like-line, without}
 use Rattle.board.proofs.Held.{reads, writes, in-tx, Valid, Agrees}
-use Rattle.board.proofs.Sound.{Sound, Named}
-use Rattle.board.proofs.Model.{Out, out, seen, seen-on, value-seen, mark-seen, record-seen, commit-seen, lands, lined-cards}
-use Rattle.board.proofs.Moves.{joined-link, cells-frame, seat-frame, front-frame, nodes-at, hand-line, wake-line, woken, lit}
+use Rattle.board.proofs.Sound.{Sound}
+use Rattle.board.proofs.Model.{Out, seen, seen-on, value-seen, mark-seen}
+use Rattle.board.proofs.Model.{record-seen, commit-seen, lands, lined-cards}
+use Rattle.board.proofs.Moves.{joined-link, cells-frame, seat-frame, front-frame, nodes-at}
+use Rattle.board.proofs.Moves.{hand-line, wake-line, woken, lit}
 use Rattle.board.proofs.Moves.{see-line-wakes, see-line-in, lit-line-in, lit-line-sees}
 use Rattle.board.proofs.Links.{views, view-at, view-begin, sound-link}
 use Rattle.board.proofs.Commits.{joinW-first, joinW-next, joinR-first, joinR-turn, joinR-wait, joinedR}
@@ -172,7 +176,8 @@ module _ (f : ℕ → ℕ) (t : ℕ → Tx) (S : ℕ → Stage) (l : List ℕ) (
   commits s i e main none k = clash (in-tx s) i k
   commits s i e main doomed k = stay (begin-of s) (view-begin s ∙ ap view e)
   commits s i e main (live r w) k =
-    subst (λ (w : List Write). Line (lands w f) (views (at S c (goes s 0 .0))) (lined-cards c (deed s) l)) (sym (k .2))
+    subst (λ (w : List Write). Line (lands w f) (views (at S c (goes s 0 .0))) (lined-cards c (deed s) l))
+      (sym (k .2))
       (to (lands (writes s) f) (goes s 0 .0) (lined-cards c (deed s) l) (main (k .3)))
 
   -- a load outside of a transaction
