@@ -26,3 +26,5 @@ pub mod Laws
 pub mod Walks
 pub mod Stores
 pub mod Counts
+pub mod Untouched
+pub mod Promised
