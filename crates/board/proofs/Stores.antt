@@ -1,7 +1,7 @@
 -- Stores in turn by a card without a transaction: all are accepted, and all stand.
 use mathlib.Core.Path.{_≡_, refl, sym, subst, _∙_, ap}
 use mathlib.Core.List.{List, [], _∷_}
-use Prim.Native.Nat.{ℕ, _+_, _*_, _≤_, _<_}
+use Prim.Native.Nat.{ℕ, _<_}
 use native.Mathlib.Omega.{arith}
 use lib.ListN.{length}
 use Rattle.std.specs.declared.result.Result.{Result}
@@ -14,7 +14,7 @@ use Rattle.memory.specs.Calls.{performed}
 use Rattle.lock.specs.declared.fault.LockFault.{LockFault}
 use Rattle.lock.specs.declared.fault.LockFault.the-variants.{Memory}
 use Rattle.lock.specs.Lock.{stores}
-use Rattle.board.proofs.Cells.{at, at-same}
+use Rattle.board.proofs.Cells.{at-same}
 use Rattle.board.proofs.Model.{seen-on}
 use Rattle.board.proofs.Bridge.{Same, Recorded, bridge}
 use Rattle.board.proofs.Frames.{stored, All-within}

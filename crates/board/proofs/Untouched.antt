@@ -1,9 +1,9 @@
 -- A free node's cells: no request, step or abort changes them.
-use mathlib.Core.Path.{_≡_, refl, sym, subst, _∙_, ap}
-use mathlib.Core.Bool.{Bool, true, false, cond}
-use mathlib.Core.List.{List, [], _∷_}
-use mathlib.Core.Logic.{_⊎_, inl, inr, ⊎-elim}
-use Prim.Native.Nat.{ℕ, suc, _+_, _*_, _≤_, _<_}
+use mathlib.Core.Path.{_≡_, refl, _∙_, ap}
+use mathlib.Core.Bool.{true}
+use mathlib.Core.List.{List}
+use mathlib.Core.Logic.{⊎-elim}
+use Prim.Native.Nat.{ℕ, suc, _<_}
 use native.Mathlib.Omega.{arith}
 use lib.Dec.{ltb}
 use lib.ListN.{length, getD}
@@ -16,8 +16,9 @@ use Rattle.memory.specs.declared.fault.MemoryFault.{MemoryFault}
 use Rattle.memory.specs.declared.fault.Refusal.the-variants.{OutOfRange}
 use Rattle.memory.specs.declared.call.MemoryCall.{MemoryCall}
 use Rattle.memory.specs.declared.call.MemoryCall.the-variants as memory-call
-use Rattle.memory.specs.Meaning.{Meaning, Outcome, Tx, none, live, doomed, standing, tx-of, in-range, refused, load-at, drop-at}
-use Rattle.memory.specs.Calls.{performed, as-zero}
+use Rattle.memory.specs.Meaning.{Meaning, Outcome, Tx, none, live, doomed, standing, tx-of, in-range, refused, load-at}
+use Rattle.memory.specs.Meaning.{drop-at}
+use Rattle.memory.specs.Calls.{performed}
 use Rattle.stages.specs.declared.answer.Answer.the-variants.{Done}
 use Rattle.stages.specs.declared.layout.Field.{Field}
 use Rattle.stages.specs.declared.layout.Field.the-variants.{Next, Prev, State, Spin}
@@ -25,32 +26,30 @@ use Rattle.stages.specs.declared.stage.Mode.{Mode}
 use Rattle.stages.specs.declared.stage.Mode.the-variants.{Read, Write}
 use Rattle.stages.specs.declared.stage.Addition.the-variants.{A1}
 use Rattle.stages.specs.declared.stage.Stage.{Stage}
-use Rattle.stages.specs.declared.stage.Stage.the-variants.{Idle, WriterEnters, ReaderEnters, Inside, Adds, WriterLeaves, ReaderLeaves}
-use Rattle.stages.specs.declared.stage.Card.{Card}
+use Rattle.stages.specs.declared.stage.Stage.the-variants.{Idle, WriterEnters, ReaderEnters, Inside, Adds}
+use Rattle.stages.specs.declared.stage.Stage.the-variants.{WriterLeaves, ReaderLeaves}
 use Rattle.stages.specs.Layout.{node-cell, counter-cell}
-use Rattle.stages.specs.Rows.{call-of, begin-of, in-transaction}
+use Rattle.stages.specs.Rows.{call-of, in-transaction}
 use Rattle.lock.specs.declared.fault.LockFault.{LockFault}
 use Rattle.lock.specs.declared.fault.LockFault.the-variants.{NoCard, NotAllowed, NoPlace, NotFree}
-use Rattle.lock.specs.Lock.{Size, LockState, Turn, stage-of, staged, refuses, free, advanced, stores, entry-stores, first-stage}
+use Rattle.lock.specs.Lock.{Size, LockState, Turn, stage-of, staged, refuses, free, stores, entry-stores, first-stage}
 use Rattle.lock.specs.Lock.{enter-by, enter-at, inside-by, leave-at, add-at, count-by, show-at, drop-by, abort-by}
 use Rattle.door.specs.declared.request.Request.{Request}
 use Rattle.door.specs.declared.request.Request.the-variants.{Enter, Leave, Add, Show}
 use Rattle.door.specs.declared.call.Call.{Call}
 use Rattle.door.specs.declared.call.Call.the-variants as call
 use Rattle.door.specs.Door.{called, served}
-use Rattle.board.specs.Book.{Book, Place, after}
-use Rattle.board.specs.Promise.{cells-of, stage, Within, Untouched}
-use Rattle.board.proofs.Views.{View, view, link}
+use Rattle.board.specs.Book.{Book, after}
+use Rattle.board.specs.Promise.{cells-of, Within, Untouched}
+use Rattle.board.proofs.Views.{view, link}
 use Rattle.board.proofs.Held.{in-tx}
-use Rattle.board.proofs.Model.{seen}
 use Rattle.board.proofs.Inv.{cards-of, Inv}
 use Rattle.board.proofs.Isolation.{outside}
-use Rattle.board.proofs.Links.{views}
-use Rattle.board.proofs.Effects.{Unheld, step-unheld}
+use Rattle.board.proofs.Effects.{step-unheld}
 use Rattle.board.proofs.Frames as frames
 use Rattle.board.proofs.Frames.{stored, stored-other, entry-within, free-unheld}
 use Rattle.board.proofs.Lists.{by-test}
-use Rattle.board.proofs.Turns.{moved, moved-same, request-cases, step-cases}
+use Rattle.board.proofs.Turns.{moved-same, request-cases, step-cases}
 use Rattle.board.proofs.Stores.{Stored, stores-done, within-below}
 use Rattle.board.proofs.Wakes.{row-seen}
 

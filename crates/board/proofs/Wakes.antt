@@ -1,33 +1,32 @@
 -- No lost wake: where a turn has come, some card is about to store 0 into the spin, and nothing but its own steps moves it.
 use mathlib.Core.Path.{_≡_, refl, sym, subst, _∙_, ap}
-use mathlib.Core.Bool.{Bool, true, false, cond}
+use mathlib.Core.Bool.{Bool, true, false}
 use mathlib.Core.List.{List, [], _∷_, _++_}
 use mathlib.Core.Logic.{_⊎_, inl, inr, ⊎-elim}
-use Prim.Native.Nat.{ℕ, zero, suc, _+_, _*_, _≤_, _<_}
+use Prim.Native.Nat.{ℕ, zero, suc, _<_}
 use native.Mathlib.Omega.{arith}
-use lib.Dec.{eqb}
 use lib.ListN.{length}
 use Rattle.std.specs.declared.option.Option.{Option}
 use Rattle.std.specs.declared.option.Option.the-variants.{Some, None}
 use Rattle.std.specs.declared.result.Result.{Result}
-use Rattle.std.specs.declared.result.Result.the-variants.{Ok, Err}
-use Rattle.std.proofs.shelf.Tests.{cases-eq, cases-lt, eqb-true, eq-eqb, eqb-false}
+use Rattle.std.specs.declared.result.Result.the-variants.{Ok}
+use Rattle.std.proofs.shelf.Tests.{cases-eq, cases-lt, eqb-true, eq-eqb}
 use Rattle.memory.specs.declared.fault.MemoryFault.{MemoryFault}
 use Rattle.memory.specs.declared.call.MemoryCall.{MemoryCall}
 use Rattle.memory.specs.declared.call.MemoryCall.the-variants as memory-call
-use Rattle.memory.specs.Meaning.{Meaning, Tx, none, standing, tx-of}
+use Rattle.memory.specs.Meaning.{Tx, none, standing, tx-of}
 use Rattle.memory.specs.Calls.{performed}
-use Rattle.stages.specs.declared.answer.Answer.{Answer}
-use Rattle.stages.specs.declared.answer.Answer.the-variants.{Step, In}
 use Rattle.stages.specs.declared.stage.Mode.{Mode}
 use Rattle.stages.specs.declared.stage.Mode.the-variants.{Read, Write}
 use Rattle.stages.specs.declared.stage.WriterEntry.the-variants.{W1, W2, W3, W4, W5, W6}
-use Rattle.stages.specs.declared.stage.ReaderEntry.the-variants.{R1, R2, R3, R4, R5, R6, R7, R8, R9, R10, R11, R12, R13, R14}
+use Rattle.stages.specs.declared.stage.ReaderEntry.the-variants.{R1, R2, R3, R4, R5, R6, R7, R8, R9, R10, R11, R12}
+use Rattle.stages.specs.declared.stage.ReaderEntry.the-variants.{R13, R14}
 use Rattle.stages.specs.declared.stage.Addition.the-variants.{A1, A2}
 use Rattle.stages.specs.declared.stage.WriterExit.the-variants.{X1, X2, X3, X4, X5}
 use Rattle.stages.specs.declared.stage.ReaderExit.the-variants.{Y1, Y2, Y3, Y4, Y5, Y6, Y7, Y8}
 use Rattle.stages.specs.declared.stage.Stage.{Stage}
-use Rattle.stages.specs.declared.stage.Stage.the-variants.{Idle, WriterEnters, ReaderEnters, Inside, Adds, WriterLeaves, ReaderLeaves}
+use Rattle.stages.specs.declared.stage.Stage.the-variants.{Idle, WriterEnters, ReaderEnters, Inside, Adds}
+use Rattle.stages.specs.declared.stage.Stage.the-variants.{WriterLeaves, ReaderLeaves}
 use Rattle.stages.specs.Rows.{call-of, in-transaction}
 use Rattle.lock.specs.Lock.{Size, LockState, stage-of, advanced}
 use Rattle.door.specs.declared.request.Request.{Request}
@@ -38,18 +37,18 @@ use Rattle.door.specs.Door.{called, served}
 use Rattle.board.specs.Book.{Book, Place, after, fed-from}
 use Rattle.board.specs.Promise as promise
 use Rattle.board.specs.Promise.{cells-of, stage, Within, No-step, Wakes-next, Wakes, Waits, Wakes-stand}
-use Rattle.board.proofs.Cells.{at, at-same, clash, next, state, spin}
-use Rattle.board.proofs.Views.{View, view, waitsW, waitsR, node, link, joined, reader, active, target, hand, granted, Cells}
-use Rattle.board.proofs.Chain.{Spot, End, Chain, Baton, chain-behind}
-use Rattle.board.proofs.Held.{Agrees, in-tx}
-use Rattle.board.proofs.Model.{Out, seen, seen-on}
+use Rattle.board.proofs.Cells.{at-same, clash, state, spin}
+use Rattle.board.proofs.Views.{View, view, node, link, joined, reader, active, target, hand, granted, Cells}
+use Rattle.board.proofs.Chain.{Chain, Baton, chain-behind}
+use Rattle.board.proofs.Held.{in-tx}
+use Rattle.board.proofs.Model.{seen, seen-on}
 use Rattle.board.proofs.Inv.{cards-of, reads-mode, Seated, Inv}
-use Rattle.board.proofs.Bridge.{Same, Recorded, bridge}
+use Rattle.board.proofs.Bridge.{Same, bridge}
 use Rattle.board.proofs.Rows.{recorded, ranged}
 use Rattle.board.proofs.Isolation.{outside}
 use Rattle.board.proofs.Join.{active-state}
-use Rattle.board.proofs.Moves.{aimed, waits-reader}
-use Rattle.board.proofs.Turns.{moved, moved-same, moved-other, same-stage, Taken, Served, served-moves, request-cases}
+use Rattle.board.proofs.Moves.{aimed}
+use Rattle.board.proofs.Turns.{moved-same, moved-other, same-stage, Taken, Served, served-moves, request-cases}
 use Rattle.board.proofs.Turns.{step-cases, step-is, abort-cases, reuse-cards}
 use Rattle.board.proofs.Stands.{node-is, chain-from, seat-in, in-place}
 
