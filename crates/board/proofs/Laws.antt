@@ -2,7 +2,7 @@
 use mathlib.Core.Path.{_≡_, refl, sym, subst, _∙_, ap}
 use mathlib.Core.Bool.{Bool, true, false, cond}
 use mathlib.Core.List.{List, [], _∷_, _++_, append-nil}
-use mathlib.Core.Logic.{_⊎_, inl, inr, ⊎-elim}
+use mathlib.Core.Logic.{_⊎_, inl, inr}
 use Prim.Native.Nat.{ℕ, zero, suc, _≤_, _<_}
 use native.Mathlib.Omega.{arith}
 use lib.Dec.{eqb}
@@ -15,7 +15,6 @@ use Rattle.std.proofs.shelf.Tests.{cases-eq, eq-eqb, ne-eqb}
 use Rattle.memory.specs.declared.fault.MemoryFault.{MemoryFault}
 use Rattle.memory.specs.declared.fault.Refusal.{Refusal}
 use Rattle.memory.specs.declared.fault.Refusal.the-variants.{OutOfRange, Already, NoTransaction, Doomed, Full}
-use Rattle.memory.specs.declared.call.MemoryCall.{MemoryCall}
 use Rattle.memory.specs.Calls.{performed}
 use Rattle.stages.specs.declared.answer.Answer.{Answer}
 use Rattle.stages.specs.declared.answer.Answer.the-variants.{Step, In, Out}
@@ -24,14 +23,15 @@ use Rattle.stages.specs.declared.stage.Mode.the-variants.{Read, Write}
 use Rattle.stages.specs.declared.stage.WriterEntry.{WriterEntry}
 use Rattle.stages.specs.declared.stage.WriterEntry.the-variants.{W1, W2, W3, W4, W5, W6}
 use Rattle.stages.specs.declared.stage.ReaderEntry.{ReaderEntry}
-use Rattle.stages.specs.declared.stage.ReaderEntry.the-variants.{R1, R2, R3, R4, R5, R6, R7, R8, R9, R10, R11, R12, R13, R14}
+use Rattle.stages.specs.declared.stage.ReaderEntry.the-variants.{R1, R2, R3, R4, R5, R6, R7, R8, R9, R10, R11, R12}
+use Rattle.stages.specs.declared.stage.ReaderEntry.the-variants.{R13, R14}
 use Rattle.stages.specs.declared.stage.Addition.the-variants.{A1, A2}
 use Rattle.stages.specs.declared.stage.WriterExit.the-variants.{X1, X2, X3, X4, X5}
 use Rattle.stages.specs.declared.stage.ReaderExit.the-variants.{Y1, Y2, Y3, Y4, Y5, Y6, Y7, Y8}
 use Rattle.stages.specs.declared.stage.Stage.{Stage}
-use Rattle.stages.specs.declared.stage.Stage.the-variants.{Idle, WriterEnters, ReaderEnters, Inside, Adds, WriterLeaves, ReaderLeaves}
+use Rattle.stages.specs.declared.stage.Stage.the-variants.{Idle, WriterEnters, ReaderEnters, Inside, Adds}
+use Rattle.stages.specs.declared.stage.Stage.the-variants.{WriterLeaves, ReaderLeaves}
 use Rattle.stages.specs.Rows.{begin-of, writer-entry-begin, reader-entry-begin}
-use Rattle.lock.specs.declared.fault.LockFault.{LockFault}
 use Rattle.lock.specs.Lock.{Size, LockState, idle-card, stage-of, first-stage, goes, returns-by, advanced}
 use Rattle.lock.specs.Lines.{writer-joined, reader-joined}
 use Rattle.door.specs.declared.request.Request.{Request}
@@ -44,7 +44,8 @@ use Rattle.board.specs.Book.{accepted, step-deed, taken-request, noted-entry, 
 use Rattle.board.specs.Promise.{places-of, sums-of, entry-under-way, add-under-way, stage}
 use Rattle.board.proofs.Cells.{clash}
 use Rattle.board.proofs.Lists.{by-test, keeps-head, parts-add}
-use Rattle.board.proofs.Turns.{Taken, Shows, Served, served-moves, request-cases, Stepped, step-cases, Aborted, abort-cases, reuse-cards}
+use Rattle.board.proofs.Turns.{Taken, Shows, Served, served-moves, request-cases, Stepped, step-cases, Aborted}
+use Rattle.board.proofs.Turns.{abort-cases, reuse-cards}
 use Rattle.board.proofs.Turns.{moved, moved-same, moved-other, same-stage}
 
 -- Tables: what a row does to what is under way.

@@ -22,6 +22,11 @@ pub mod Seats
 pub mod Lists
 pub mod Turns
 pub mod Stands
+pub mod Wakes
 pub mod Laws
 pub mod Walks
 pub mod Keeps
+pub mod Stores
+pub mod Counts
+pub mod Untouched
+pub mod Promised

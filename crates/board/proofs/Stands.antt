@@ -1,9 +1,9 @@
 -- The line in the cells, and who is inside: from what every run keeps.
 use mathlib.Core.Path.{_≡_, refl, sym, subst, _∙_, ap}
-use mathlib.Core.Bool.{Bool, true, false}
+use mathlib.Core.Bool.{true, false}
 use mathlib.Core.List.{List, [], _∷_, _++_, append-assoc}
 use mathlib.Core.Logic.{_⊎_, inl, inr, ⊎-elim}
-use Prim.Native.Nat.{ℕ, zero, suc, _+_, _*_, _<_}
+use Prim.Native.Nat.{ℕ, suc}
 use native.Mathlib.Omega.{arith}
 use Rattle.memory.specs.Meaning.{standing}
 use Rattle.stages.specs.declared.stage.Mode.{Mode}
@@ -11,15 +11,16 @@ use Rattle.stages.specs.declared.stage.Mode.the-variants.{Read, Write}
 use Rattle.stages.specs.declared.stage.Addition.{Addition}
 use Rattle.stages.specs.declared.stage.Addition.the-variants.{A1, A2}
 use Rattle.stages.specs.declared.stage.Stage.{Stage}
-use Rattle.stages.specs.declared.stage.Stage.the-variants.{Inside, Adds}
+use Rattle.stages.specs.declared.stage.Stage.the-variants.{Adds}
 use Rattle.lock.specs.Lock.{Size, stage-of}
 use Rattle.board.specs.Book.{Book, Place}
 use Rattle.board.specs.Promise as promise
 use Rattle.board.specs.Promise.{cells-of, Line-stands, Inside-stands}
 use Rattle.board.proofs.Cells.{clash, next, prev, state}
-use Rattle.board.proofs.Views.{View, away, comesW, comesR, waitsW, waitsR, holdsW, turnR, activeR, seesR, wakesR, hands}
-use Rattle.board.proofs.Views.{view, node, link, joined, reader, active, granted, Cells}
-use Rattle.board.proofs.Chain.{Spot, End, Chain, In, Once, Line, chain-pred}
+use Rattle.board.proofs.Views.{View, away, comesW, comesR, waitsW, waitsR, holdsW, turnR, activeR, seesR, wakesR}
+use Rattle.board.proofs.Views.{hands}
+use Rattle.board.proofs.Views.{view, node, link, joined, reader, active, granted}
+use Rattle.board.proofs.Chain.{Spot, End, Chain, In, Once, chain-pred}
 use Rattle.board.proofs.Inv.{cards-of, reads-mode, Seated, Inv}
 use Rattle.board.proofs.Moves.{joined-link}
 use Rattle.board.proofs.Join.{active-state}

@@ -1,9 +1,9 @@
 -- What each call does to the cards' records: it moves its own card, by the table or as the request says, or none.
-use mathlib.Core.Path.{_≡_, refl, sym, subst, _∙_, ap}
+use mathlib.Core.Path.{_≡_, refl, _∙_, ap}
 use mathlib.Core.Bool.{Bool, true, false, cond}
-use mathlib.Core.List.{List, [], _∷_, _++_}
-use mathlib.Core.Logic.{_⊎_, inl, inr, ⊎-elim}
-use Prim.Native.Nat.{ℕ, _≤_, _<_}
+use mathlib.Core.List.{List}
+use mathlib.Core.Logic.{_⊎_, inl, inr}
+use Prim.Native.Nat.{ℕ, _<_}
 use native.Mathlib.Omega.{arith}
 use lib.Dec.{eqb, ltb}
 use lib.ListN.{length, set}
@@ -12,7 +12,7 @@ use Rattle.std.specs.declared.option.Option.the-variants.{Some, None}
 use Rattle.std.specs.declared.result.Result.{Result}
 use Rattle.std.specs.declared.result.Result.the-variants.{Ok, Err}
 use Rattle.std.proofs.shelf.Lists.{getD-set-same, getD-set-other}
-use Rattle.std.proofs.shelf.Tests.{ltb-true}
+use Rattle.std.proofs.shelf.Tests.{ltb-true, lt-ltb}
 use Rattle.memory.specs.declared.fault.MemoryFault.{MemoryFault}
 use Rattle.memory.specs.declared.call.MemoryCall.{MemoryCall}
 use Rattle.memory.specs.declared.call.MemoryCall.the-variants as memory-call
@@ -25,24 +25,25 @@ use Rattle.stages.specs.declared.stage.Addition.the-variants.{A1}
 use Rattle.stages.specs.declared.stage.WriterExit.the-variants.{X1}
 use Rattle.stages.specs.declared.stage.ReaderExit.the-variants.{Y1}
 use Rattle.stages.specs.declared.stage.Stage.{Stage}
-use Rattle.stages.specs.declared.stage.Stage.the-variants.{Idle, WriterEnters, ReaderEnters, Inside, Adds, WriterLeaves, ReaderLeaves}
+use Rattle.stages.specs.declared.stage.Stage.the-variants.{Idle, WriterEnters, ReaderEnters, Inside, Adds}
+use Rattle.stages.specs.declared.stage.Stage.the-variants.{WriterLeaves, ReaderLeaves}
 use Rattle.stages.specs.declared.stage.Card.{Card}
 use Rattle.stages.specs.Layout.{counter-cell}
 use Rattle.stages.specs.Rows.{call-of, begin-of, in-transaction}
 use Rattle.lock.specs.declared.fault.LockFault.{LockFault}
 use Rattle.lock.specs.declared.fault.LockFault.the-variants.{NoCard, NotAllowed, NoPlace, NotFree}
 use Rattle.lock.specs.declared.values.NodeValues.{NodeValues}
-use Rattle.lock.specs.Lock.{Size, LockState, Turn, stage-of, staged, kept, refuses, of-card, on-free, free, idle-card, advanced}
-use Rattle.lock.specs.Lock.{step-by, stepped, drop-by, abort-by, aborted, stores, entry-stores, first-stage, enter-by, enter-at}
-use Rattle.lock.specs.Lock.{inside-by, leave-at, add-at, count-by, show-at, reuse-stores, reuse-by, reuse-at, reused}
+use Rattle.lock.specs.Lock.{Size, LockState, Turn, stage-of, staged, refuses, free, idle-card, advanced}
+use Rattle.lock.specs.Lock.{step-by, drop-by, abort-by, stores, entry-stores, first-stage, enter-by, enter-at}
+use Rattle.lock.specs.Lock.{inside-by, leave-at, add-at, count-by, show-at, reuse-stores, reuse-by, reuse-at}
 use Rattle.door.specs.declared.fault.DoorFault.{DoorFault}
 use Rattle.door.specs.declared.fault.DoorFault.the-variants.{Lock}
 use Rattle.door.specs.declared.request.Request.{Request}
 use Rattle.door.specs.declared.request.Request.the-variants.{Enter, Leave, Add, Show}
 use Rattle.door.specs.declared.call.Call.the-variants as call
-use Rattle.door.specs.Door.{DoorState, Reply, called, judged, noted, resent, memo-of, understood, served}
+use Rattle.door.specs.Door.{DoorState, called, judged, noted, resent, memo-of, understood, served}
 use Rattle.board.proofs.Lists.{by-test}
-use Rattle.board.specs.Book.{Place, Sum, Deed, plain, deed, deed-by, step-deed, accepted, new-request, taken-request}
+use Rattle.board.specs.Book.{Deed, plain, deed, deed-by, step-deed, accepted, new-request, taken-request}
 
 -- a table with another stage for a card
 abbrev pub moved : LockState → ℕ → Stage → List Card
@@ -198,6 +199,17 @@ step-cases z s c = by-card (ltb c (z .cards)) refl
             (cond b (deed-by (s .lock .meaning) (stage-of (s .lock) c) (call-of (z .nodes) c (stage-of (s .lock) c))) plain)
     by-card true e = by-call (ltb-true c (z .cards) e) (call-of (z .nodes) c (stage-of (s .lock) c)) refl
     by-card false e = inl (refl, refl)
+
+-- a step of a card that is there, by the call of its row
+pub step-is : (z : Size) (s : DoorState) (c : ℕ) (k : MemoryCall) → c < z .cards
+    → call-of (z .nodes) c (stage-of (s .lock) c) ≡ Some k
+    → called z s (call.Step c) .1 .lock ≡ staged (s .lock) (performed (s .lock .meaning) k .after) c
+        (advanced (stage-of (s .lock) c) (performed (s .lock .meaning) k .answer) .0)
+unfolding called
+step-is z s c k lt e =
+  ap (λ (b : Bool). (cond b (step-by (s .lock) c (call-of (z .nodes) c (stage-of (s .lock) c)))
+    (refuses (s .lock) NoCard)) .1) (lt-ltb c (z .cards) lt)
+  ∙ ap (λ (o : Option MemoryCall). step-by (s .lock) c o .1) e
 
 -- what an abort does: nothing to the records, or its card is back at the begin of its transaction
 abbrev pub Aborted : Size → LockState → ℕ → LockState → Type 0

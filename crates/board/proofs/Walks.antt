@@ -1,34 +1,34 @@
 -- The tablet's line call: what it finds in the cells and the cards' stages is the book's line.
 use mathlib.Core.Path.{_≡_, refl, sym, subst, _∙_, ap}
 use mathlib.Core.Bool.{Bool, true, false, cond}
-use mathlib.Core.List.{List, [], _∷_, _++_, map}
+use mathlib.Core.List.{List, [], _∷_, map}
 use mathlib.Core.Logic.{_⊎_, inl, inr, ⊎-elim}
-use Prim.Native.Nat.{ℕ, zero, suc, _+_, _*_, _≤_, _<_}
+use Prim.Native.Nat.{ℕ, zero, suc, _≤_, _<_}
 use native.Mathlib.Omega.{arith}
-use lib.Dec.{eqb, ltb}
+use lib.Dec.{eqb}
 use lib.ListN.{length, getD}
-use Rattle.std.proofs.shelf.Tests.{cases-lt, cases-bool, lt-ltb, eq-eqb, ne-eqb}
-use Rattle.std.specs.declared.result.Result.{Result}
+use Rattle.std.proofs.shelf.Tests.{cases-lt, lt-ltb, eq-eqb, ne-eqb}
 use Rattle.std.specs.declared.result.Result.the-variants.{Ok, Err}
-use Rattle.memory.specs.declared.fault.MemoryFault.{MemoryFault}
 use Rattle.memory.specs.declared.fault.Refusal.the-variants.{OutOfRange}
 use Rattle.memory.specs.Meaning.{Meaning, standing}
 use Rattle.stages.specs.declared.stage.Mode.the-variants.{Read, Write}
 use Rattle.stages.specs.declared.stage.WriterEntry.the-variants.{W1, W2, W3, W4, W5, W6}
-use Rattle.stages.specs.declared.stage.ReaderEntry.the-variants.{R1, R2, R3, R4, R5, R6, R7, R8, R9, R10, R11, R12, R13, R14}
+use Rattle.stages.specs.declared.stage.ReaderEntry.the-variants.{R1, R2, R3, R4, R5, R6, R7, R8, R9, R10, R11, R12}
+use Rattle.stages.specs.declared.stage.ReaderEntry.the-variants.{R13, R14}
 use Rattle.stages.specs.declared.stage.Addition.the-variants.{A1, A2}
 use Rattle.stages.specs.declared.stage.WriterExit.the-variants.{X1, X2, X3, X4, X5}
 use Rattle.stages.specs.declared.stage.ReaderExit.the-variants.{Y1, Y2, Y3, Y4, Y5, Y6, Y7, Y8}
 use Rattle.stages.specs.declared.stage.Stage.{Stage}
-use Rattle.stages.specs.declared.stage.Stage.the-variants.{Idle, WriterEnters, ReaderEnters, Inside, Adds, WriterLeaves, ReaderLeaves}
+use Rattle.stages.specs.declared.stage.Stage.the-variants.{Idle, WriterEnters, ReaderEnters, Inside, Adds}
+use Rattle.stages.specs.declared.stage.Stage.the-variants.{WriterLeaves, ReaderLeaves}
 use Rattle.stages.specs.declared.stage.Card.{Card}
-use Rattle.lock.specs.Lock.{Size, LockState, idle-card, stage-of}
+use Rattle.lock.specs.Lock.{Size, idle-card, stage-of}
 use Rattle.lock.specs.Lines.{line-link, seen, behind, points, has-ahead, leads, first-link, walk, nodes-in-line}
 use Rattle.board.specs.Book.{Book, Place}
 use Rattle.board.specs.Promise.{Within}
 use Rattle.board.proofs.Cells.{clash, next}
 use Rattle.board.proofs.Views.{View, view, node, link, joined}
-use Rattle.board.proofs.Chain.{Spot, End, Chain, In, Once, Line, chain-pred, chain-behind, chain-joined}
+use Rattle.board.proofs.Chain.{Spot, End, Chain, In, Once, chain-pred, chain-behind, chain-joined}
 use Rattle.board.proofs.Inv.{cards-of, Seated, Inv}
 use Rattle.board.proofs.Lists.{once-few}
 use Rattle.board.proofs.Links.{sound-link}
