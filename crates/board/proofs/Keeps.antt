@@ -6,7 +6,7 @@ use mathlib.Core.Logic.{_⊎_, inl, inr, ⊎-elim}
 use Prim.Native.Nat.{ℕ, zero, suc, _+_, _*_, _≤_, _<_}
 use native.Mathlib.Omega.{arith}
 use lib.Dec.{eqb, ltb}
-use lib.ListN.{length, getD, set}
+use lib.ListN.{length, getD, set, replicate}
 use Rattle.std.specs.declared.option.Option.{Option}
 use Rattle.std.specs.declared.option.Option.the-variants.{Some, None}
 use Rattle.std.specs.declared.result.Result.{Result}
@@ -17,7 +17,7 @@ use Rattle.memory.specs.declared.fault.Refusal.{Refusal}
 use Rattle.memory.specs.declared.fault.Refusal.the-variants.{OutOfRange, Already, NoTransaction, Doomed, Full}
 use Rattle.memory.specs.declared.call.MemoryCall.{MemoryCall}
 use Rattle.memory.specs.declared.call.MemoryCall.the-variants as memory-call
-use Rattle.memory.specs.Meaning.{Meaning, Tx, standing, tx-of}
+use Rattle.memory.specs.Meaning.{Meaning, Tx, none, standing, tx-of, cleared}
 use Rattle.memory.specs.Calls.{performed}
 use Rattle.stages.specs.declared.answer.Answer.{Answer}
 use Rattle.stages.specs.declared.answer.Answer.the-variants.{Done}
@@ -39,22 +39,25 @@ use Rattle.lock.specs.declared.values.NodeValues.{NodeValues}
 use Rattle.lock.specs.Faults as lock
 use Rattle.lock.specs.Lock.{Size, LockState, Turn, stage-of, staged, kept, refuses, of-card, on-free, free, goes, advanced, returns-by}
 use Rattle.lock.specs.Lock.{step-by, stepped, drop-by, abort-by, aborted, stores, entry-stores, first-stage, enter-by, enter-at, entered}
+use Rattle.lock.specs.Lock.{new-lock, idle-card}
+use Rattle.stages.specs.declared.stage.Card.{Card}
 use Rattle.lock.specs.Lock.{inside-by, leave-at, left, add-at, added, count-by, show-at, shown, reuse-stores, reuse-by, reuse-at, reused}
 use Rattle.door.specs.declared.fault.DoorFault.{DoorFault}
-use Rattle.door.specs.declared.fault.DoorFault.the-variants.{Malformed, Differs}
+use Rattle.door.specs.declared.fault.DoorFault.the-variants.{Malformed, Differs, Lock}
 use Rattle.door.specs.declared.request.Request.{Request}
 use Rattle.door.specs.declared.request.Request.the-variants.{Enter, Leave, Add, Show}
 use Rattle.door.specs.declared.request.Memo.{Memo}
 use Rattle.door.specs.declared.call.Call.{Call}
 use Rattle.door.specs.declared.call.Call.the-variants as call
+use Rattle.door.specs.Faults as door
 use Rattle.door.specs.Door.{DoorState, Reply, no-memo, new-memo, new-door, memo-of, worded, understood, same, told, resent}
 use Rattle.door.specs.Door.{served, noted, judged, asked, passed, called}
-use Rattle.board.specs.Book.{Book, Place, Sum, Deed, plain, deed, deed-by, accepted, lined, summed, step-deed}
+use Rattle.board.specs.Book.{Book, Place, Sum, Deed, plain, deed, deed-by, accepted, lined, summed, step-deed, after, new-book}
 use Rattle.board.specs.Promise.{Within, Never-8}
 use Rattle.board.proofs.Cells.{at, at-same, at-all, clash}
 use Rattle.board.proofs.Views.{View, view, link, joined, reader}
 use Rattle.board.proofs.Chain.{Line, In, chain-joined}
-use Rattle.board.proofs.Held.{in-tx, Isolated, Agrees}
+use Rattle.board.proofs.Held.{in-tx, has-written, Isolated, Agrees}
 use Rattle.board.proofs.Sound.{Sound}
 use Rattle.board.proofs.Model.{Out, out, seen}
 use Rattle.board.proofs.Inv.{cards-of, Seated, Kept, Counted, Inv}
@@ -67,7 +70,7 @@ use Rattle.board.proofs.Counts.{finishing, step-counted, counted-cells, counte
 use Rattle.board.proofs.Links.{views, view-begin}
 use Rattle.board.proofs.Steps.{step-line}
 use Rattle.board.proofs.Frames.{line-same, line-begin, stored, All-within, stored-other, stored-line, entry-within, reuse-within}
-use Rattle.board.proofs.Frames.{enter-line, reuse-line, free-unheld}
+use Rattle.board.proofs.Frames.{enter-line, reuse-line, free-unheld, new-line}
 use Rattle.board.proofs.Frames as frames
 use Rattle.board.proofs.Seats.{cards-lined, seated-step, seated-same, seated-other}
 
@@ -155,7 +158,7 @@ stores-left c S lt o (w ∷ ws) b m cl tl I =
   let R = stores-left c S lt o ws (b .1) D (B .cells) (B .txs) J in
   let a : performed m k .answer ≡ Ok 0 = B .answer ∙ ap (λ (o : Out). o .answer) E in
   (R .0, record
-    { done = rw a (R .1 .done)
+    { done = rw (a, stores) (R .1 .done)
     ; cells = R .1 .cells; txs = R .1 .txs
     ; stands = R .1 .stands ∙ ap (stored ws) (B .cell ∙ ap (λ (o : Out). o .cell) E)
     ; isolated = R .1 .isolated })
@@ -443,6 +446,12 @@ module _ (z : Size) (W : Within z) (s : LockState) (l : List Place) (q : List Su
     (inside-good (add-at z s c k a) (add-good k a) (S c) refl)
   served-good (Show k) = of-card-good (inside-by s (show-at z s c k) (S c)) (inside-good (show-at z s c k) (show-good k) (S c) refl)
 
+-- a list of the same everywhere
+all-same : {A : Type 0} (n i : ℕ) (a : A) → getD (replicate n a) i a ≡ a
+all-same zero i a = refl
+all-same (suc n) zero a = refl
+all-same (suc n) (suc i) a = all-same n i a
+
 -- Every call of the board, on sizes within the ranges.
 module _ (z : Size) (W : Within z) where
   -- a call of a card that is not there changes nothing
@@ -511,8 +520,27 @@ module _ (z : Size) (W : Within z) where
       go true = told-never a h
       go false = λ e. omega arith
 
+  -- a request that was understood, or refused for its form
+  abbrev Well : Result Request DoorFault → Type 0
+  Well (Ok w) = Unit {0}
+  Well (Err e) = door.number e ≡ 8 → ⊥
+
+  well-cond : (b : Bool) (x y : Result Request DoorFault) → Well x → Well y → Well (cond b x y)
+  well-cond true x y h k = h
+  well-cond false x y h k = k
+
+  understood-well : (t k a b : ℕ) → Well (understood t k a b)
+  understood-well t k a b =
+    let no : door.number Malformed ≡ 8 → ⊥ = λ e. omega arith in
+    well-cond (ltb t 2) (worded k a b) (Err Malformed)
+      (well-cond (eqb k 1) _ _ (well-cond (eqb b 0) _ _ tt no)
+        (well-cond (eqb k 2) _ _ (well-cond (eqb b 0) _ _ tt no)
+          (well-cond (eqb k 3) _ _ (well-cond (eqb a 0) _ _ (well-cond (eqb b 0) _ _ tt no) no)
+            (well-cond (eqb k 4) _ _ tt (well-cond (eqb k 5) _ _ (well-cond (eqb b 0) _ _ tt no) no)))))
+      no
+
   judged-fair : (s : DoorState) (l : List Place) (q : List Sum) → Safe z (s .lock) l q → Calm (s .memos) → (c : ℕ)
-      → c < z .cards → (t : ℕ) (r : Result Request DoorFault) → Never-8 {A = Request} r → Fair-reply (judged z s c t r) l q
+      → c < z .cards → (t : ℕ) (r : Result Request DoorFault) → Well r → Fair-reply (judged z s c t r) l q
   judged-fair s l q h k c lt t (Err e) n = record { safe = h; calm = k; never = n }
   judged-fair s l q h k c lt t (Ok w) n = go (eqb (memo-of s c .toggle) t)
     where
@@ -523,3 +551,84 @@ module _ (z : Size) (W : Within z) where
         { safe = g .0
         ; calm = calm-set (s .memos) c (record { toggle = t; request = Some w; answer = served z (s .lock) c w .0 }) k (g .1)
         ; never = told-never (served z (s .lock) c w .0) (g .1) }
+
+  asked-fair : (s : DoorState) (l : List Place) (q : List Sum) → Safe z (s .lock) l q → Calm (s .memos)
+      → (c t k a b : ℕ) → Fair-reply (asked z s c t k a b) l q
+  asked-fair s l q h y c t k a b = go (ltb c (z .cards)) refl
+    where
+      go : (x : Bool) → ltb c (z .cards) ≡ x
+        → Fair-reply (cond x (judged z s c t (understood t k a b)) (Err (Lock NoCard), s)) l q
+      go true e = judged-fair s l q h y c (ltb-true c (z .cards) e) t (understood t k a b) (understood-well t k a b)
+      go false e = record { safe = h; calm = y; never = λ x. omega arith }
+
+  -- the book's invariant with the memos
+  pub record Whole (b : Book) : Type 0 where
+    pub inv : Inv z b
+    pub calm : Calm (b .board .memos)
+
+  -- the invariant of a book, and of its parts
+  safe-of : (b : Book) → Inv z b → Safe z (b .board .lock) (b .line) (b .finished)
+  safe-of b I = record { kept = I .kept; seated = I .seated; counted = I .counted }
+
+  whole-of : (b : Book) (p : Reply) → b .board ≡ p .1 → Fair-reply p (b .line) (b .finished) → Whole b
+  whole-of b p e f = record
+    { inv = let h = subst (λ (s : DoorState). Safe z (s .lock) (b .line) (b .finished)) (sym e) (f .safe) in
+        record { kept = h .kept; seated = h .seated; counted = h .counted }
+    ; calm = subst (λ (s : DoorState). Calm (s .memos)) (sym e) (f .calm) }
+
+  -- every call
+  call-fair : (b : Book) → Whole b → (k : Call)
+      → Fair-reply (called z (b .board) k) (after z b k .line) (after z b k .finished)
+  unfolding called
+  call-fair b I (call.Request c t k x y) =
+    asked-fair (b .board) (b .line) (b .finished) (safe-of b (I .inv)) (I .calm) c t k x y
+  call-fair b I (call.Step c) = let d = step-deed z (b .board .lock) c in
+    passed-fair (b .board) (stepped z (b .board .lock) c) (lined c d (b .line)) (summed c d (b .finished))
+      (step-keeps (b .board .lock) (b .line) (b .finished) (safe-of b (I .inv)) c) (I .calm)
+  call-fair b I (call.Abort c) = passed-fair (b .board) (aborted z (b .board .lock) c) (b .line) (b .finished)
+    (abort-keeps (b .board .lock) (b .line) (b .finished) (safe-of b (I .inv)) c) (I .calm)
+  call-fair b I (call.Reuse c n v) = passed-fair (b .board) (reused z (b .board .lock) c n v) (b .line) (b .finished)
+    (reuse-keeps (b .board .lock) (b .line) (b .finished) (safe-of b (I .inv)) c n v) (I .calm)
+
+  -- the book's board after a call
+  pub board-after : (b : Book) (k : Call) → after z b k .board ≡ called z (b .board) k .1
+  board-after b (call.Request c t k x y) = refl
+  board-after b (call.Step c) = refl
+  board-after b (call.Abort c) = refl
+  board-after b (call.Reuse c n v) = refl
+
+  -- every call keeps the invariant
+  pub whole-after : (b : Book) → Whole b → (k : Call) → Whole (after z b k)
+  whole-after b I k = whole-of (after z b k) (called z (b .board) k) (board-after b k) (call-fair b I k)
+
+  -- and is never refused by the memory
+  pub never-after : (b : Book) → Whole b → (k : Call) → Never-8 (called z (b .board) k .0)
+  never-after b I k = call-fair b I k .never
+
+  -- a board newly set up
+  pub whole-new : Whole new-book
+  unfolding new-door
+  whole-new = record
+    { inv = record
+        { kept = record
+            { cells = refl; txs = refl; cards = refl
+            ; isolated = record
+                { agrees = λ c. subst (λ (x : Tx). Agrees (standing cleared) (stage-of new-lock c) x)
+                    (sym (all-same 8 c none)) (ap in-tx (idle-all c))
+                ; apart = λ c d a _ w. clash (has-written a (tx-of cleared c)) w
+                    (ap (has-written a) (all-same 8 c none)) }
+            ; line = new-line (standing cleared) (stage-of new-lock) refl idle-all
+            ; absent = λ c _. idle-all c
+            ; sound = λ c. subst (Sound (z .nodes) (z .counters)) (sym (idle-all c)) tt }
+        ; seated = tt
+        ; counted = record
+            { counts = λ k _. all-same 137 (counter-cell (z .nodes) k) 0
+            ; loaded = λ c n k a v e. clash (finishing (stage-of new-lock c)) (ap finishing e) (ap finishing (idle-all c)) } }
+    ; calm = calm-new 8 }
+    where
+      idle-all : (c : ℕ) → stage-of new-lock c ≡ Idle
+      idle-all c = ap (λ (r : Card). r .stage) (all-same 8 c idle-card)
+      calm-new : (n c : ℕ) → Fine (getD (replicate n new-memo) c no-memo .answer)
+      calm-new zero c = tt
+      calm-new (suc n) zero = tt
+      calm-new (suc n) (suc c) = calm-new n c
