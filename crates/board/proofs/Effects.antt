@@ -33,7 +33,8 @@ use Rattle.board.proofs.Chain.{Spot, End, who, Line, chain-end, chain-behind, 
 use Rattle.board.proofs.Held.{reads, writes, Valid, Agrees}
 use Rattle.board.proofs.Model.{Out, seen, seen-on, commit-seen, lands}
 use Rattle.board.proofs.Moves.{node-is, aimed, hand-due, due-card}
-use Rattle.board.proofs.Links.{views}
+use Rattle.board.proofs.Sound.{Sound}
+use Rattle.board.proofs.Links.{views, sound-link}
 use Rattle.board.proofs.Steps.{Soft, soft-cell}
 
 -- some card has the node m
@@ -215,11 +216,11 @@ module _ (N : ℕ) (f : ℕ → ℕ) (t : ℕ → Tx) (S : ℕ → Stage) (l : L
   changes (ReaderLeaves n (Y4 p q)) e x k = soft (ReaderLeaves n (Y4 p q)) (call.Write c (cell-of p Next) q) tt x
   changes (ReaderLeaves n (Y5 p q)) e x k = soft (ReaderLeaves n (Y5 p q)) (call.Write c (cell-of q Prev) p) tt x
   changes (ReaderLeaves n (Y6 p q)) e x k = soft (ReaderLeaves n (Y6 p q)) (call.Read c (cell-of q State)) tt x
-  changes (ReaderLeaves n (Y7 zero zero s)) e x k = commits (ReaderLeaves n (Y7 zero zero s))
-    (λ h. (inl refl, tt)) x k
+  changes (ReaderLeaves n (Y7 zero zero s)) e x k =
+    commits (ReaderLeaves n (Y7 zero zero s)) (λ h. (inl refl, tt)) x k
   changes (ReaderLeaves n (Y7 zero (suc j) s)) e x k =
-    commits (ReaderLeaves n (Y7 zero (suc j) s)) (λ h. (behind n j (activeR n) (ap view e) refl refl (h .1 .0), tt)) x
-      k
+    commits (ReaderLeaves n (Y7 zero (suc j) s))
+      (λ h. (behind n j (activeR n) (ap view e) refl refl (h .1 .0), tt)) x k
   changes (ReaderLeaves n (Y7 (suc m) zero s)) e x k =
     commits (ReaderLeaves n (Y7 (suc m) zero s)) (λ h. (ahead n m (ap view e) (h .0), (inl refl, tt))) x k
   changes (ReaderLeaves n (Y7 (suc m) (suc j) s)) e x k =
@@ -248,7 +249,8 @@ unheld-cell N n a S s lt u p q (inl (inr w)) =
   let h = w .2 in let k = w .3 in let e : w .0 ≡ n = omega arith in u (w .1 .0) (w .1 .1 ∙ ap suc e)
 unheld-cell N n a S s lt u p q (inr w) = let e = w .5 in omega arith
 
-field-cell : (n : ℕ) (x : Field) → (1 + 4 * n ≤ node-cell n x) × (node-cell n x ≤ 4 + 4 * n)
+-- where the cells of a node lie
+pub field-cell : (n : ℕ) (x : Field) → (1 + 4 * n ≤ node-cell n x) × (node-cell n x ≤ 4 + 4 * n)
 field-cell n Next = (omega arith, omega arith)
 field-cell n Prev = (omega arith, omega arith)
 field-cell n State = (omega arith, omega arith)
@@ -261,3 +263,19 @@ pub step-unheld : (c N : ℕ) (f : ℕ → ℕ) (t : ℕ → Tx) (S : ℕ → St
 step-unheld c N f t S l k q L h n lt u x = let b = field-cell n x in
   ⊎-elim (λ e. e) (λ m. absurd (unheld-cell N n (node-cell n x) S (S c) lt u (b .0) (b .1) m))
     (step-cells c N f t S l k q L h (node-cell n x))
+
+-- a step changes no counter but the one that its card adds to
+pub step-counter : (c N K : ℕ) (f : ℕ → ℕ) (t : ℕ → Tx) (S : ℕ → Stage) (l : List ℕ) (k : MemoryCall)
+    → call-of N c (S c) ≡ Some k → Line f (views S) l → ((d : ℕ) → Sound N K (S d)) → Agrees f (S c) (t c)
+    → (j : ℕ) → (seen c k f t .cell (counter-cell N j) ≡ f (counter-cell N j))
+      ⊎ ((n : ℕ) × (y : ℕ) × (v : ℕ) × (S c ≡ Adds n (A2 j y v)))
+step-counter c N K f t S l k q L sound h j = ⊎-elim inl (λ m. inr (go m))
+    (step-cells c N f t S l k q L h (counter-cell N j))
+  where
+    go : Mine (views S) (counter-cell N j) ⊎ Adds-to N (S c) (counter-cell N j)
+      → (n : ℕ) × (y : ℕ) × (v : ℕ) × (S c ≡ Adds n (A2 j y v))
+    go (inl (inl z)) = absurd (omega arith)
+    go (inl (inr w)) = let b = sound-link N K (S (w .1 .0)) (sound (w .1 .0)) in let e = w .1 .1 in let u = w .3 in
+      absurd (omega arith)
+    go (inr w) = let e : w .1 ≡ j = let z = w .5 in omega arith in
+      (w .0, w .2, w .3, subst (λ (j : ℕ). S c ≡ Adds (w .0) (A2 j (w .2) (w .3))) e (w .4))

@@ -3,7 +3,7 @@ use mathlib.Core.Path.{_≡_, refl, sym, subst, _∙_, ap, fun-ext}
 use mathlib.Core.Bool.{Bool, true, false, cond}
 use mathlib.Core.List.{List, [], _∷_}
 use mathlib.Core.Logic.{_⊎_, inl, inr}
-use Prim.Native.Nat.{ℕ, zero, suc, _+_, _*_, _≤_}
+use Prim.Native.Nat.{ℕ, zero, suc, _+_, _*_, _≤_, _<_}
 use lib.ListN.{getD}
 use native.Mathlib.Omega.{arith}
 use Rattle.std.proofs.shelf.Ways.{tells}
@@ -14,16 +14,18 @@ use Rattle.stages.specs.declared.stage.WriterExit.the-variants.{X1}
 use Rattle.stages.specs.declared.stage.ReaderExit.the-variants.{Y1}
 use Rattle.stages.specs.declared.stage.Stage.{Stage}
 use Rattle.stages.specs.declared.stage.Stage.the-variants.{Idle, Inside, Adds, WriterLeaves, ReaderLeaves}
+use Rattle.stages.specs.declared.layout.Field.{Field}
+use Rattle.stages.specs.Layout.{node-cell, counter-cell}
 use Rattle.stages.specs.Rows.{begin-of}
 use Rattle.lock.specs.declared.values.NodeValues.{NodeValues}
 use Rattle.lock.specs.Lock.{LockState, stage-of, idle-card, free, has-node, entry-stores, reuse-stores, first-stage}
 use Rattle.stages.specs.declared.stage.Card.{Card}
-use Rattle.board.proofs.Cells.{at, at-other, at-all, clash, next, prev, state, spin}
+use Rattle.board.proofs.Cells.{at, at-same, at-other, at-all, clash, next, prev, state, spin}
 use Rattle.board.proofs.Views.{View, view, node, link, joined, hand, Cells}
 use Rattle.board.proofs.Chain.{Line, Like, like-line, Nodes}
 use Rattle.board.proofs.Links.{views, view-at, view-begin, has-link}
 use Rattle.board.proofs.Steps.{Same-node, frame-line, like-refl}
-use Rattle.board.proofs.Effects.{Unheld}
+use Rattle.board.proofs.Effects.{Unheld, field-cell}
 
 -- a card's stage changes, and the line does not see it
 pub line-same : (f : ℕ → ℕ) (S : ℕ → Stage) (l : List ℕ) (c : ℕ) (s : Stage) → view s ≡ view (S c)
@@ -103,7 +105,7 @@ comes n Read = (refl, refl, refl)
 comes n Write = (refl, refl, refl)
 
 -- a card takes a node that no card has
-nodes-come : (V : ℕ → View) (c n : ℕ) (u : View) → link u ≡ suc n → Unheld V n → Nodes V → Nodes (at V c u)
+pub nodes-come : (V : ℕ → View) (c n : ℕ) (u : View) → link u ≡ suc n → Unheld V n → Nodes V → Nodes (at V c u)
 nodes-come V c n u e free N x y = at-all
   (λ (x : ℕ) (z : View). link z ≡ link (at V c u y) → (x ≡ y) ⊎ (link z ≡ 0)) V c u
   (at-all (λ (y : ℕ) (w : View). link u ≡ link w → (c ≡ y) ⊎ (link u ≡ 0)) V c u
@@ -140,6 +142,25 @@ enter-line f S l c n m idle free L = come-line (stored (entry-stores n m) f) S l
 pub reuse-line : (f : ℕ → ℕ) (S : ℕ → Stage) (l : List ℕ) (n : ℕ) (v : NodeValues) → Unheld (views S) n
     → Line f (views S) l → Line (stored (reuse-stores n v) f) (views S) l
 reuse-line f S l n v free L = stored-line f (views S) l n (reuse-stores n v) (reuse-within n v) free L
+
+-- an enter changes no cell of a node that no card has after it
+pub enter-unheld : (f : ℕ → ℕ) (S : ℕ → Stage) (c n : ℕ) (m : Mode) (k : ℕ)
+    → Unheld (views (at S c (first-stage n m))) k
+    → (x : Field) → stored (entry-stores n m) f (node-cell k x) ≡ f (node-cell k x)
+enter-unheld f S c n m k u x =
+    stored-other f n (node-cell k x) (entry-stores n m) (entry-within n m) outside
+  where
+    mine : n ≡ k → link (view (at S c (first-stage n m) c)) ≡ suc k
+    mine e = ap (λ (s : Stage). link (view s)) (at-same S c (first-stage n m)) ∙ comes n m .0 ∙ ap suc e
+    outside : Within n (node-cell k x) → ⊥
+    outside w = let b = field-cell k x in let p = w .0 in let q = w .1 in let r = b .0 in let s = b .1 in
+      let e : n ≡ k = omega arith in u c (mine e)
+
+-- stores into one of N nodes change no counter
+pub stored-counter : (f : ℕ → ℕ) (N n j : ℕ) (ws : List (ℕ × ℕ)) → n < N → All-within n ws
+    → stored ws f (counter-cell N j) ≡ f (counter-cell N j)
+stored-counter f N n j ws lt h =
+  stored-other f n (counter-cell N j) ws h (λ w. let q = w .1 in omega arith)
 
 -- nobody is in line on a new board
 pub new-line : (f : ℕ → ℕ) (S : ℕ → Stage) → f 0 ≡ 0 → ((d : ℕ) → S d ≡ Idle) → Line f (views S) []

@@ -1,5 +1,5 @@
--- Moves within the line: a card that has left wakes the first, a reader becomes active, looks at the one behind it and
--- wakes it. The line's cards stay, so do their links.
+-- Moves within the line: a card that has left wakes the first; a reader becomes active, looks at the one behind it
+-- and wakes it. The cards in line and their links stay.
 use mathlib.Core.Path.{_≡_, refl, sym, subst, _∙_, ap}
 use mathlib.Core.Bool.{Bool, true, false}
 use mathlib.Core.List.{List, [], _∷_}
@@ -199,8 +199,8 @@ module _ (f : ℕ → ℕ) (V : ℕ → View) (l : List ℕ) (I : Line f V l) (c
     ; baton = inl (at-all (λ (d : ℕ) (v : View). hand v ≡ 0) V c away refl
         (λ d nd. ⊎-elim (λ e. absurd (nd e)) (λ z. z) (D .1 d)), C .1) }
 
--- a card in line changes in its place, from the view V c to u, and perhaps the one behind it: what is to be shown of the
--- other fronts and seats, of the place behind the card or the end there, and of the cells
+-- a card in line changes in its place, from the view V c to u, and perhaps the one behind it: what is to be shown of
+-- the other fronts and seats, of the place behind the card or the end there, and of the cells
 module _ (f g : ℕ → ℕ) (V : ℕ → View) (l : List ℕ) (I : Line f V l) (c : ℕ) (u : View)
     (jc : joined (V c) ≡ true) (ju : joined u ≡ true) (lu : link u ≡ link (V c)) (hu : hand u ≡ hand (V c))
     (tail : g 0 ≡ f 0)
@@ -466,8 +466,8 @@ module _ (f : ℕ → ℕ) (V : ℕ → View) (l : List ℕ) (I : Line f V l) (c
   wake-line = local-line f (woken f m) V l I c (activeR n)
       (ap joined is) refl (sym (ap link is)) (sym (ap hand is)) (w-tail f m)
       (λ d _ _. front-frame f (woken f m) (V d) (w-next f m (node (V d))))
-      (λ p d i o np P. at-all (λ (d : ℕ) (x : View). (node (V d) ≡ m → ⊥) → Seat f (woken f m) (V d) x) V c (activeR n)
-        (λ _. seat) others d (wake-apart p d o np P))
+      (λ p d i o np P. at-all (λ (d : ℕ) (x : View). (node (V d) ≡ m → ⊥) → Seat f (woken f m) (V d) x)
+        V c (activeR n) (λ _. seat) others d (wake-apart p d o np P))
       behind (λ E. let z = sym (ap target is) ∙ E .aimless in absurd (omega arith))
       (at-all (λ (d : ℕ) (v : View). Cells (woken f m) v) V c (activeR n)
         (w-state f m n ∙ subst (Cells f) is (I .cells c))

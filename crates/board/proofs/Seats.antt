@@ -2,10 +2,9 @@
 use mathlib.Core.Path.{_≡_, refl, sym, subst, _∙_, ap}
 use mathlib.Core.Bool.{Bool, true, false, cond}
 use mathlib.Core.List.{List, [], _∷_, _++_}
-use mathlib.Core.Logic.{_⊎_, inl, inr, ⊎-elim}
+use mathlib.Core.Logic.{inl, inr}
 use Prim.Native.Nat.{ℕ, suc}
 use lib.Dec.{eqb}
-use Rattle.std.proofs.shelf.Tests.{cases-eq, eq-eqb, ne-eqb}
 use Rattle.std.specs.declared.result.Result.{Result}
 use Rattle.std.specs.declared.result.Result.the-variants.{Ok, Err}
 use Rattle.memory.specs.declared.fault.MemoryFault.{MemoryFault}
@@ -17,8 +16,9 @@ use Rattle.lock.specs.Lock.{goes, returns-by, advanced}
 use Rattle.board.specs.Book.{Place, Deed, plain, joins, parts, finishes, deed, accepted, lined, without}
 use Rattle.board.proofs.Cells.{at, at-same, at-other, at-all, clash}
 use Rattle.board.proofs.Views.{view, link, joined, reader}
-use Rattle.board.proofs.Chain.{Line, In, Once, chain-joined}
+use Rattle.board.proofs.Chain.{Line, In, chain-joined}
 use Rattle.board.proofs.Chain as chain
+use Rattle.board.proofs.Leave.{without-gone}
 use Rattle.board.proofs.Model.{lined-cards}
 use Rattle.board.proofs.Inv.{cards-of, reads-mode, Seated}
 use Rattle.board.proofs.Links.{views, view-begin, Same-seat, Seat-after, seat-goes}
@@ -77,30 +77,9 @@ seated-without S c (p ∷ l) h = go (eqb (p .card) c) (seated-without S c l (h .
     go true k = h .2
     go false k = (h .0, h .1, k)
 
--- a card that is taken out of the line is not in it
-without-in : (c d : ℕ) (l : List ℕ) → In d (chain.without c l) → In d l
-without-in c d [] i = i
-without-in c d (a ∷ l) i = go (eqb a c) (without-in c d l) i
-  where
-    go : (b : Bool) → (In d (chain.without c l) → In d l) → In d (cond b l (a ∷ chain.without c l)) → (d ≡ a) ⊎ In d l
-    go true r j = inr j
-    go false r (inl e) = inl e
-    go false r (inr j) = inr (r j)
-
-pub without-gone : (c : ℕ) (l : List ℕ) → Once l → In c (chain.without c l) → ⊥
-without-gone c [] u i = i
-without-gone c (a ∷ l) u i = go (cases-eq a c) (without-gone c l (u .1))
-  where
-    at-head : In c (cond (eqb a c) l (a ∷ chain.without c l)) → (b : Bool) → eqb a c ≡ b
-      → In c (cond b l (a ∷ chain.without c l))
-    at-head j b e = subst (λ (b : Bool). In c (cond b l (a ∷ chain.without c l))) e j
-    go : (a ≡ c) ⊎ (a ≡ c → ⊥) → (In c (chain.without c l) → ⊥) → ⊥
-    go (inl e) r = u .0 (subst (λ (x : ℕ). In x l) (sym e) (at-head i true (eq-eqb a c e)))
-    go (inr n) r = ⊎-elim (λ e. n (sym e)) r (at-head i false (ne-eqb a c n))
-
 -- every place keeps the node and the mode of its card through a step, whatever the memory answers
 module _ (f : ℕ → ℕ) (S : ℕ → Stage) (l : List Place) (L : Line f (views S) (cards-of l)) (h : Seated S l)
-  (c : ℕ) where
+    (c : ℕ) where
   out-of-line : joined (view (S c)) ≡ false → In c (cards-of l) → ⊥
   out-of-line j i = clash (joined (view (S c))) (chain-joined f (views S) (cards-of l) 0 (L .chain) c i) j
 

@@ -51,6 +51,7 @@ use Rattle.board.proofs.Commits.{outW-only, outW-first, outR-only, outR-last, 
 pub at-stay : (V : ℕ → View) (c : ℕ) (u : View) → u ≡ V c → at V c u ≡ V
 at-stay V c u e = fun-ext (at-all (λ (d : ℕ) (v : View). v ≡ V d) V c u e (λ d _. refl))
 
+-- a card is as it was
 pub like-refl : (f : ℕ → ℕ) (v : View) → Like f f v v
 like-refl f v = record
   { holds = refl; joins = refl
@@ -146,9 +147,11 @@ view-advanced s (Err f) h = go (f .refusal)
     go Doomed = view-begin s
     go Full = refl
 
-module _ (f : ℕ → ℕ) (t : ℕ → Tx) (S : ℕ → Stage) (l : List ℕ) (L : Line f (views S) l) (c : ℕ) where
+-- the rows of a card c
+module _ (N K : ℕ) (f : ℕ → ℕ) (t : ℕ → Tx) (S : ℕ → Stage) (l : List ℕ) (L : Line f (views S) l)
+    (sound : (d : ℕ) → Sound N K (S d)) (c : ℕ) where
   -- the line after a call of card c at stage s
-  abbrev After : Stage → Out → Type 0
+  abbrev pub After : Stage → Out → Type 0
   After s o = Line (o .cell) (views (at S c (advanced s (o .answer) .0)))
     (lined-cards c (cond (accepted (o .answer)) (deed s) plain) l)
 
@@ -230,7 +233,7 @@ module _ (f : ℕ → ℕ) (t : ℕ → Tx) (S : ℕ → Stage) (l : List ℕ) (
   step-x4 n zero e = commits (WriterLeaves n (X4 zero)) refl e
     (λ h. outW-only f (views S) l L c n (ap view (sym e)) (h .0))
   step-x4 n (suc k) e = commits (WriterLeaves n (X4 (suc k))) refl e
-    (λ h. outW-first f (views S) l L c n k (ap view (sym e)) (h .0))
+    (λ h. outW-first f (views S) l L c n (ap view (sym e)) k (h .0))
 
   step-y7 : (n p q s : ℕ) → ReaderLeaves n (Y7 p q s) ≡ S c → (x : Tx)
     → Agrees f (ReaderLeaves n (Y7 p q s)) x → After (ReaderLeaves n (Y7 p q s)) (commit-seen c f t x)
@@ -310,10 +313,10 @@ module _ (f : ℕ → ℕ) (t : ℕ → Tx) (S : ℕ → Stage) (l : List ℕ) (
   hands-on n m e = to (at f (spin m) 0) Idle l (hand-line f (views S) l L c n m (sym e))
 
   -- a counter lies behind all nodes
-  step-a2 : (N K n j y v : ℕ) → ((d : ℕ) → Sound N K (S d)) → Adds n (A2 j y v) ≡ S c → (x : Tx)
+  step-a2 : (n j y v : ℕ) → Adds n (A2 j y v) ≡ S c → (x : Tx)
     → Agrees f (Adds n (A2 j y v)) x
     → After (Adds n (A2 j y v)) (seen-on (call.Store c (counter-cell N j) (capped v y)) f t x)
-  step-a2 N K n j y v sound e = let z = counter-cell N j in let g : ℕ → ℕ = at f z (capped v y) in
+  step-a2 n j y v e = let z = counter-cell N j in let g : ℕ → ℕ = at f z (capped v y) in
     stores (Adds n (A2 j y v)) z (capped v y) refl
       (to g (Inside n mode.Write) l
         (subst (λ (W : ℕ → View). Line g W l) (sym (at-stay (views S) c (holdsW n) (ap view e)))
@@ -327,90 +330,85 @@ module _ (f : ℕ → ℕ) (t : ℕ → Tx) (S : ℕ → Stage) (l : List ℕ) (
         , at-other f z w (state k) (omega arith), at-other f z w (spin k) (omega arith) )
 
   -- the line after a step, by the row's call
-  abbrev After-call : Stage → Tx → Option MemoryCall → Type 0
+  abbrev pub After-call : Stage → Tx → Option MemoryCall → Type 0
   After-call s x None = Unit {0}
   After-call s x (Some k) = After s (seen-on k f t x)
 
-  step-on : (N K : ℕ) → ((d : ℕ) → Sound N K (S d)) → (s : Stage) → s ≡ S c → Sound N K s → (x : Tx) → Agrees f s x
-    → After-call s x (call-of N c s)
-  step-on N K sound Idle e h x k = tt
-  step-on N K sound (WriterEnters n W1) e h x k = soft (WriterEnters n W1) (λ v. refl) refl e (call.Begin c) tt x
-  step-on N K sound (WriterEnters n W2) e h x k = soft (WriterEnters n W2) (λ v. refl) refl e (call.Read c 0) tt x
-  step-on N K sound (WriterEnters n (W3 zero)) e h x k =
+  -- the same by cases of the call: nothing is said of a stage without one
+  pub step-on : (s : Stage) → s ≡ S c → Sound N K s → (x : Tx) → Agrees f s x → After-call s x (call-of N c s)
+  step-on Idle e h x k = tt
+  step-on (WriterEnters n W1) e h x k = soft (WriterEnters n W1) (λ v. refl) refl e (call.Begin c) tt x
+  step-on (WriterEnters n W2) e h x k = soft (WriterEnters n W2) (λ v. refl) refl e (call.Read c 0) tt x
+  step-on (WriterEnters n (W3 zero)) e h x k =
     soft (WriterEnters n (W3 zero)) (λ v. refl) refl e (call.Write c 0 (suc n)) tt x
-  step-on N K sound (WriterEnters n (W3 (suc m))) e h x k =
+  step-on (WriterEnters n (W3 (suc m))) e h x k =
     soft (WriterEnters n (W3 (suc m))) (λ v. refl) refl e (call.Write c 0 (suc n)) tt x
-  step-on N K sound (WriterEnters n (W4 zero)) e h x k = absurd (h .1)
-  step-on N K sound (WriterEnters n (W4 (suc m))) e h x k =
+  step-on (WriterEnters n (W4 zero)) e h x k = absurd (h .1)
+  step-on (WriterEnters n (W4 (suc m))) e h x k =
     soft (WriterEnters n (W4 (suc m))) (λ v. refl) refl e (call.Write c (next m) (suc n)) tt x
-  step-on N K sound (WriterEnters n (W5 p)) e h x k = step-w5 n p e x k
-  step-on N K sound (WriterEnters n W6) e h x k = step-w6 n e x k
-  step-on N K sound (ReaderEnters n R1) e h x k = soft (ReaderEnters n R1) (λ v. refl) refl e (call.Begin c) tt x
-  step-on N K sound (ReaderEnters n R2) e h x k = soft (ReaderEnters n R2) (λ v. refl) refl e (call.Read c 0) tt x
-  step-on N K sound (ReaderEnters n (R3 zero)) e h x k =
+  step-on (WriterEnters n (W5 p)) e h x k = step-w5 n p e x k
+  step-on (WriterEnters n W6) e h x k = step-w6 n e x k
+  step-on (ReaderEnters n R1) e h x k = soft (ReaderEnters n R1) (λ v. refl) refl e (call.Begin c) tt x
+  step-on (ReaderEnters n R2) e h x k = soft (ReaderEnters n R2) (λ v. refl) refl e (call.Read c 0) tt x
+  step-on (ReaderEnters n (R3 zero)) e h x k =
     soft (ReaderEnters n (R3 zero)) (λ v. refl) refl e (call.Write c 0 (suc n)) tt x
-  step-on N K sound (ReaderEnters n (R3 (suc m))) e h x k =
+  step-on (ReaderEnters n (R3 (suc m))) e h x k =
     soft (ReaderEnters n (R3 (suc m))) (λ v. refl) refl e (call.Write c 0 (suc n)) tt x
-  step-on N K sound (ReaderEnters n (R4 p)) e h x k =
+  step-on (ReaderEnters n (R4 p)) e h x k =
     soft (ReaderEnters n (R4 p)) (λ v. refl) refl e (call.Write c (prev n) p) tt x
-  step-on N K sound (ReaderEnters n (R5 zero)) e h x k = absurd (h .1)
-  step-on N K sound (ReaderEnters n (R5 (suc m))) e h x k =
+  step-on (ReaderEnters n (R5 zero)) e h x k = absurd (h .1)
+  step-on (ReaderEnters n (R5 (suc m))) e h x k =
     soft (ReaderEnters n (R5 (suc m))) (λ v. refl) refl e (call.Write c (next m) (suc n)) tt x
-  step-on N K sound (ReaderEnters n (R6 zero)) e h x k = absurd (h .1)
-  step-on N K sound (ReaderEnters n (R6 (suc m))) e h x k =
+  step-on (ReaderEnters n (R6 zero)) e h x k = absurd (h .1)
+  step-on (ReaderEnters n (R6 (suc m))) e h x k =
     soft (ReaderEnters n (R6 (suc m))) (λ v. refl) refl e (call.Read c (state m)) tt x
-  step-on N K sound (ReaderEnters n (R7 p s)) e h x k = step-r7 n p s e x k
-  step-on N K sound (ReaderEnters n R8) e h x k = step-r8 n e x k
-  step-on N K sound (ReaderEnters n R9) e h x k = soft (ReaderEnters n R9) (λ v. refl) refl e (call.Begin c) tt x
-  step-on N K sound (ReaderEnters n R10) e h x k =
-    soft (ReaderEnters n R10) (λ v. refl) refl e (call.Write c (state n) 3) tt x
-  step-on N K sound (ReaderEnters n R11) e h x k =
-    soft (ReaderEnters n R11) (λ v. refl) refl e (call.Read c (next n)) tt x
-  step-on N K sound (ReaderEnters n (R12 q)) e h x k = step-r12 n q e x k
-  step-on N K sound (ReaderEnters n (R13 zero)) e h x k = absurd (h .1)
-  step-on N K sound (ReaderEnters n (R13 (suc m))) e h x k = step-r13 n m e x k
-  step-on N K sound (ReaderEnters n (R14 zero)) e h x k = absurd (h .1)
-  step-on N K sound (ReaderEnters n (R14 (suc m))) e h x k = step-r14 n m e x k
-  step-on N K sound (Inside n mode.Write) e h x k = tt
-  step-on N K sound (Inside n mode.Read) e h x k = tt
-  step-on N K sound (Adds n (A1 j y)) e h x k =
-    soft (Adds n (A1 j y)) (λ v. refl) refl e (call.Load c (counter-cell N j)) tt x
-  step-on N K sound (Adds n (A2 j y v)) e h x k = step-a2 N K n j y v sound e x k
-  step-on N K sound (WriterLeaves n X1) e h x k = soft (WriterLeaves n X1) (λ v. refl) refl e (call.Begin c) tt x
-  step-on N K sound (WriterLeaves n X2) e h x k =
-    soft (WriterLeaves n X2) (λ v. refl) refl e (call.Read c (next n)) tt x
-  step-on N K sound (WriterLeaves n (X3 zero)) e h x k =
+  step-on (ReaderEnters n (R7 p s)) e h x k = step-r7 n p s e x k
+  step-on (ReaderEnters n R8) e h x k = step-r8 n e x k
+  step-on (ReaderEnters n R9) e h x k = soft (ReaderEnters n R9) (λ v. refl) refl e (call.Begin c) tt x
+  step-on (ReaderEnters n R10) e h x k = soft (ReaderEnters n R10) (λ v. refl) refl e (call.Write c (state n) 3) tt x
+  step-on (ReaderEnters n R11) e h x k = soft (ReaderEnters n R11) (λ v. refl) refl e (call.Read c (next n)) tt x
+  step-on (ReaderEnters n (R12 q)) e h x k = step-r12 n q e x k
+  step-on (ReaderEnters n (R13 zero)) e h x k = absurd (h .1)
+  step-on (ReaderEnters n (R13 (suc m))) e h x k = step-r13 n m e x k
+  step-on (ReaderEnters n (R14 zero)) e h x k = absurd (h .1)
+  step-on (ReaderEnters n (R14 (suc m))) e h x k = step-r14 n m e x k
+  step-on (Inside n mode.Write) e h x k = tt
+  step-on (Inside n mode.Read) e h x k = tt
+  step-on (Adds n (A1 j y)) e h x k = soft (Adds n (A1 j y)) (λ v. refl) refl e (call.Load c (counter-cell N j)) tt x
+  step-on (Adds n (A2 j y v)) e h x k = step-a2 n j y v e x k
+  step-on (WriterLeaves n X1) e h x k = soft (WriterLeaves n X1) (λ v. refl) refl e (call.Begin c) tt x
+  step-on (WriterLeaves n X2) e h x k = soft (WriterLeaves n X2) (λ v. refl) refl e (call.Read c (next n)) tt x
+  step-on (WriterLeaves n (X3 zero)) e h x k =
     soft (WriterLeaves n (X3 zero)) (λ v. refl) refl e (call.Write c 0 0) tt x
-  step-on N K sound (WriterLeaves n (X3 (suc m))) e h x k =
+  step-on (WriterLeaves n (X3 (suc m))) e h x k =
     soft (WriterLeaves n (X3 (suc m))) (λ v. refl) refl e (call.Write c (prev m) 0) tt x
-  step-on N K sound (WriterLeaves n (X4 q)) e h x k = step-x4 n q e x k
-  step-on N K sound (WriterLeaves n (X5 zero)) e h x k = absurd (h .1)
-  step-on N K sound (WriterLeaves n (X5 (suc m))) e h x k =
+  step-on (WriterLeaves n (X4 q)) e h x k = step-x4 n q e x k
+  step-on (WriterLeaves n (X5 zero)) e h x k = absurd (h .1)
+  step-on (WriterLeaves n (X5 (suc m))) e h x k =
     stores (WriterLeaves n (X5 (suc m))) (spin m) 0 refl (hands-on n m (ap view e)) x k
-  step-on N K sound (ReaderLeaves n Y1) e h x k = soft (ReaderLeaves n Y1) (λ v. refl) refl e (call.Begin c) tt x
-  step-on N K sound (ReaderLeaves n Y2) e h x k =
-    soft (ReaderLeaves n Y2) (λ v. refl) refl e (call.Read c (prev n)) tt x
-  step-on N K sound (ReaderLeaves n (Y3 zero)) e h x k =
+  step-on (ReaderLeaves n Y1) e h x k = soft (ReaderLeaves n Y1) (λ v. refl) refl e (call.Begin c) tt x
+  step-on (ReaderLeaves n Y2) e h x k = soft (ReaderLeaves n Y2) (λ v. refl) refl e (call.Read c (prev n)) tt x
+  step-on (ReaderLeaves n (Y3 zero)) e h x k =
     soft (ReaderLeaves n (Y3 zero)) (λ v. refl) refl e (call.Read c (next n)) tt x
-  step-on N K sound (ReaderLeaves n (Y3 (suc m))) e h x k =
+  step-on (ReaderLeaves n (Y3 (suc m))) e h x k =
     soft (ReaderLeaves n (Y3 (suc m))) (λ v. refl) refl e (call.Read c (next n)) tt x
-  step-on N K sound (ReaderLeaves n (Y4 zero q)) e h x k = absurd (h .1)
-  step-on N K sound (ReaderLeaves n (Y4 (suc m) q)) e h x k =
+  step-on (ReaderLeaves n (Y4 zero q)) e h x k = absurd (h .1)
+  step-on (ReaderLeaves n (Y4 (suc m) q)) e h x k =
     soft (ReaderLeaves n (Y4 (suc m) q)) (λ v. refl) refl e (call.Write c (next m) q) tt x
-  step-on N K sound (ReaderLeaves n (Y5 zero zero)) e h x k =
+  step-on (ReaderLeaves n (Y5 zero zero)) e h x k =
     soft (ReaderLeaves n (Y5 zero zero)) (λ v. refl) refl e (call.Write c 0 0) tt x
-  step-on N K sound (ReaderLeaves n (Y5 (suc m) zero)) e h x k =
+  step-on (ReaderLeaves n (Y5 (suc m) zero)) e h x k =
     soft (ReaderLeaves n (Y5 (suc m) zero)) (λ v. refl) refl e (call.Write c 0 (suc m)) tt x
-  step-on N K sound (ReaderLeaves n (Y5 zero (suc j))) e h x k =
+  step-on (ReaderLeaves n (Y5 zero (suc j))) e h x k =
     soft (ReaderLeaves n (Y5 zero (suc j))) (λ v. refl) refl e (call.Write c (prev j) 0) tt x
-  step-on N K sound (ReaderLeaves n (Y5 (suc m) (suc j))) e h x k =
+  step-on (ReaderLeaves n (Y5 (suc m) (suc j))) e h x k =
     soft (ReaderLeaves n (Y5 (suc m) (suc j))) (λ v. refl) refl e (call.Write c (prev j) (suc m)) tt x
-  step-on N K sound (ReaderLeaves n (Y6 p zero)) e h x k = absurd (h .2)
-  step-on N K sound (ReaderLeaves n (Y6 p (suc j))) e h x k =
+  step-on (ReaderLeaves n (Y6 p zero)) e h x k = absurd (h .2)
+  step-on (ReaderLeaves n (Y6 p (suc j))) e h x k =
     soft (ReaderLeaves n (Y6 p (suc j))) (λ v. refl) refl e (call.Read c (state j)) tt x
-  step-on N K sound (ReaderLeaves n (Y7 p q s)) e h x k = step-y7 n p q s e x k
-  step-on N K sound (ReaderLeaves n (Y8 zero)) e h x k = absurd (h .1)
-  step-on N K sound (ReaderLeaves n (Y8 (suc m))) e h x k =
+  step-on (ReaderLeaves n (Y7 p q s)) e h x k = step-y7 n p q s e x k
+  step-on (ReaderLeaves n (Y8 zero)) e h x k = absurd (h .1)
+  step-on (ReaderLeaves n (Y8 (suc m))) e h x k =
     stores (ReaderLeaves n (Y8 (suc m))) (spin m) 0 refl (hands-on n m (ap view e)) x k
 
 -- a step keeps the line, by the row's call k
@@ -419,4 +417,5 @@ pub step-line : (c N K : ℕ) (f : ℕ → ℕ) (t : ℕ → Tx) (S : ℕ → St
     → Line (seen c k f t .cell) (views (at S c (advanced (S c) (seen c k f t .answer) .0)))
         (lined-cards c (cond (accepted (seen c k f t .answer)) (deed (S c)) plain) l)
 step-line c N K f t S l k q L sound a =
-  subst (After-call f t S l L c (S c) (t c)) q (step-on f t S l L c N K sound (S c) refl (sound c) (t c) a)
+  subst (After-call N K f t S l L sound c (S c) (t c)) q
+    (step-on N K f t S l L sound c (S c) refl (sound c) (t c) a)
