@@ -73,7 +73,8 @@ entry-goes c (ReaderEnters n (R6 p)) v = refl
 entry-goes c (ReaderEnters n (R7 zero s)) v = refl
 entry-goes c (ReaderEnters n (R7 (suc p) s)) v = 
   by-test (λ (x : ReaderEntry). (record { card = c; node = n; mode = Read } ∷ [])
-    ≡ (record { card = c; node = n; mode = Read } ∷ []) ++ entry-under-way c (ReaderEnters n x)) (eqb s 3) R9 R8 refl refl
+    ≡ (record { card = c; node = n; mode = Read } ∷ []) ++ entry-under-way c (ReaderEnters n x))
+    (eqb s 3) R9 R8 refl refl
 entry-goes c (ReaderEnters n R8) zero = refl
 entry-goes c (ReaderEnters n R8) (suc v) = refl
 entry-goes c (ReaderEnters n R9) v = refl
@@ -82,7 +83,8 @@ entry-goes c (ReaderEnters n R11) v = refl
 entry-goes c (ReaderEnters n (R12 zero)) v = refl
 entry-goes c (ReaderEnters n (R12 (suc t))) v = refl
 entry-goes c (ReaderEnters n (R13 t)) v = 
-  by-test (λ (x : Stage × Answer). [] ≡ entry-under-way c (x .0)) (eqb v 1) (ReaderEnters n (R14 t), Step) (Inside n Read, In) refl refl
+  by-test (λ (x : Stage × Answer). [] ≡ entry-under-way c (x .0)) (eqb v 1)
+    (ReaderEnters n (R14 t), Step) (Inside n Read, In) refl refl
 entry-goes c (ReaderEnters n (R14 t)) v = refl
 entry-goes c (Inside n m) v = refl
 entry-goes c (Adds n (A1 k a)) v = refl
@@ -104,7 +106,8 @@ entry-goes c (ReaderLeaves n (Y5 (suc p) (suc t))) v = refl
 entry-goes c (ReaderLeaves n (Y6 p t)) v = refl
 entry-goes c (ReaderLeaves n (Y7 p zero s)) v = refl
 entry-goes c (ReaderLeaves n (Y7 zero (suc t) s)) v = 
-  by-test (λ (x : Stage × Answer). [] ≡ entry-under-way c (x .0)) (eqb s 2) (ReaderLeaves n (Y8 (suc t)), Step) (Idle, Out) refl refl
+  by-test (λ (x : Stage × Answer). [] ≡ entry-under-way c (x .0)) (eqb s 2)
+    (ReaderLeaves n (Y8 (suc t)), Step) (Idle, Out) refl refl
 entry-goes c (ReaderLeaves n (Y7 (suc p) (suc t) s)) v = refl
 entry-goes c (ReaderLeaves n (Y8 t)) v = refl
 
@@ -137,7 +140,8 @@ add-goes c (ReaderEnters n R11) v = refl
 add-goes c (ReaderEnters n (R12 zero)) v = refl
 add-goes c (ReaderEnters n (R12 (suc t))) v = refl
 add-goes c (ReaderEnters n (R13 t)) v = 
-  by-test (λ (x : Stage × Answer). [] ≡ add-under-way c (x .0)) (eqb v 1) (ReaderEnters n (R14 t), Step) (Inside n Read, In) refl refl
+  by-test (λ (x : Stage × Answer). [] ≡ add-under-way c (x .0)) (eqb v 1)
+    (ReaderEnters n (R14 t), Step) (Inside n Read, In) refl refl
 add-goes c (ReaderEnters n (R14 t)) v = refl
 add-goes c (Inside n m) v = refl
 add-goes c (Adds n (A1 k a)) v = refl
@@ -159,11 +163,12 @@ add-goes c (ReaderLeaves n (Y5 (suc p) (suc t))) v = refl
 add-goes c (ReaderLeaves n (Y6 p t)) v = refl
 add-goes c (ReaderLeaves n (Y7 p zero s)) v = refl
 add-goes c (ReaderLeaves n (Y7 zero (suc t) s)) v = 
-  by-test (λ (x : Stage × Answer). [] ≡ add-under-way c (x .0)) (eqb s 2) (ReaderLeaves n (Y8 (suc t)), Step) (Idle, Out) refl refl
+  by-test (λ (x : Stage × Answer). [] ≡ add-under-way c (x .0)) (eqb s 2)
+    (ReaderLeaves n (Y8 (suc t)), Step) (Idle, Out) refl refl
 add-goes c (ReaderLeaves n (Y7 (suc p) (suc t) s)) v = refl
 add-goes c (ReaderLeaves n (Y8 t)) v = refl
 
--- a transaction that starts again has joined nothing
+-- a transaction of a writer that starts again: it has joined just if it had
 writer-begins : (at : WriterEntry) → writer-joined (writer-entry-begin at) ≡ writer-joined at
 writer-begins W1 = refl
 writer-begins W2 = refl
@@ -172,6 +177,7 @@ writer-begins (W4 p) = refl
 writer-begins (W5 p) = refl
 writer-begins W6 = refl
 
+-- of a reader too
 reader-begins : (at : ReaderEntry) → reader-joined (reader-entry-begin at) ≡ reader-joined at
 reader-begins R1 = refl
 reader-begins R2 = refl
@@ -188,7 +194,7 @@ reader-begins (R12 t) = refl
 reader-begins (R13 t) = refl
 reader-begins (R14 t) = refl
 
--- what is under way stays under way where a transaction starts again
+-- an entry stays under way where a transaction starts again
 entry-begins : (c : ℕ) (g : Stage) → entry-under-way c (begin-of g) ≡ entry-under-way c g
 entry-begins c Idle = refl
 entry-begins c (WriterEnters n at) =
@@ -200,6 +206,7 @@ entry-begins c (Adds n at) = refl
 entry-begins c (WriterLeaves n at) = refl
 entry-begins c (ReaderLeaves n at) = refl
 
+-- and so does an add
 add-begins : (c : ℕ) (g : Stage) → add-under-way c (begin-of g) ≡ add-under-way c g
 add-begins c Idle = refl
 add-begins c (WriterEnters n at) = refl
@@ -211,44 +218,51 @@ add-begins c (ReaderLeaves n at) = refl
 
 -- Lists of places and of adds, one card's part of them.
 
+-- one card's places of two lists
 places-append : (c : ℕ) (l k : List Place) → places-of c (l ++ k) ≡ places-of c l ++ places-of c k
 places-append c [] k = refl
 places-append c (p ∷ l) k =
   keeps-head (eqb (p .card) c) p (places-of c (l ++ k)) (places-of c l) (places-of c k) (places-append c l k)
 
+-- one card's adds of two lists
 sums-append : (c : ℕ) (l k : List Sum) → sums-of c (l ++ k) ≡ sums-of c l ++ sums-of c k
 sums-append c [] k = refl
 sums-append c (p ∷ l) k =
   keeps-head (eqb (p .card) c) p (sums-of c (l ++ k)) (sums-of c l) (sums-of c k) (sums-append c l k)
 
--- one place, or one add, of the card itself and of another
+-- a place of the card itself
 own-place : (c n : ℕ) (m : Mode) → places-of c (record { card = c; node = n; mode = m } ∷ [])
     ≡ record { card = c; node = n; mode = m } ∷ []
 own-place c n m = rw (eq-eqb c c refl)
 
+-- an add of the card itself
 own-sum : (c k a : ℕ) → sums-of c (record { card = c; counter = k; amount = a } ∷ [])
     ≡ record { card = c; counter = k; amount = a } ∷ []
 own-sum c k a = rw (eq-eqb c c refl)
 
+-- a place of another card
 other-place : (c e n : ℕ) (m : Mode) → (e ≡ c → ⊥) → places-of c (record { card = e; node = n; mode = m } ∷ []) ≡ []
 other-place c e n m h = rw (ne-eqb e c h)
 
+-- an add of another card
 other-sum : (c e k a : ℕ) → (e ≡ c → ⊥) → sums-of c (record { card = e; counter = k; amount = a } ∷ []) ≡ []
 other-sum c e k a h = rw (ne-eqb e c h)
 
--- a deed and a request add at the end
+-- a deed adds to the joinings at the end
 joined-is : (c : ℕ) (d : Deed) (l : List Place) → joined c d l ≡ l ++ joined c d []
 joined-is c plain l = sym (append-nil l)
 joined-is c (joins n m) l = refl
 joined-is c parts l = sym (append-nil l)
 joined-is c (finishes k a) l = sym (append-nil l)
 
+-- to the finished adds
 summed-is : (c : ℕ) (d : Deed) (l : List Sum) → summed c d l ≡ l ++ summed c d []
 summed-is c plain l = sym (append-nil l)
 summed-is c (joins n m) l = sym (append-nil l)
 summed-is c parts l = sym (append-nil l)
 summed-is c (finishes k a) l = refl
 
+-- a request adds to the entries at the end
 entry-is : (c : ℕ) (w : Option Request) (l : List Place) → noted-entry c w l ≡ l ++ noted-entry c w []
 entry-is c None l = sym (append-nil l)
 entry-is c (Some (Enter m n)) l = refl
@@ -256,6 +270,7 @@ entry-is c (Some Leave) l = sym (append-nil l)
 entry-is c (Some (Add k a)) l = sym (append-nil l)
 entry-is c (Some (Show k)) l = sym (append-nil l)
 
+-- to the adds asked for
 add-is : (c : ℕ) (w : Option Request) (l : List Sum) → noted-add c w l ≡ l ++ noted-add c w []
 add-is c None l = sym (append-nil l)
 add-is c (Some (Enter m n)) l = sym (append-nil l)
@@ -263,31 +278,35 @@ add-is c (Some Leave) l = sym (append-nil l)
 add-is c (Some (Add k a)) l = refl
 add-is c (Some (Show k)) l = sym (append-nil l)
 
--- what they add is of their own card
+-- what a deed adds is its own card's
 joined-own : (c : ℕ) (d : Deed) → places-of c (joined c d []) ≡ joined c d []
 joined-own c plain = refl
 joined-own c (joins n m) = own-place c n m
 joined-own c parts = refl
 joined-own c (finishes k a) = refl
 
+-- of the finished adds too
 summed-own : (c : ℕ) (d : Deed) → sums-of c (summed c d []) ≡ summed c d []
 summed-own c plain = refl
 summed-own c (joins n m) = refl
 summed-own c parts = refl
 summed-own c (finishes k a) = own-sum c k a
 
+-- and no other card's
 joined-other : (c e : ℕ) (d : Deed) → (e ≡ c → ⊥) → places-of c (joined e d []) ≡ []
 joined-other c e plain h = refl
 joined-other c e (joins n m) h = other-place c e n m h
 joined-other c e parts h = refl
 joined-other c e (finishes k a) h = refl
 
+-- of the finished adds too
 summed-other : (c e : ℕ) (d : Deed) → (e ≡ c → ⊥) → sums-of c (summed e d []) ≡ []
 summed-other c e plain h = refl
 summed-other c e (joins n m) h = refl
 summed-other c e parts h = refl
 summed-other c e (finishes k a) h = other-sum c e k a h
 
+-- what a request adds is no other card's
 entry-other : (c e : ℕ) (w : Option Request) → (e ≡ c → ⊥) → places-of c (noted-entry e w []) ≡ []
 entry-other c e None h = refl
 entry-other c e (Some (Enter m n)) h = other-place c e n m h
@@ -295,6 +314,7 @@ entry-other c e (Some Leave) h = refl
 entry-other c e (Some (Add k a)) h = refl
 entry-other c e (Some (Show k)) h = refl
 
+-- of the adds asked for too
 add-other : (c e : ℕ) (w : Option Request) → (e ≡ c → ⊥) → sums-of c (noted-add e w []) ≡ []
 add-other c e None h = refl
 add-other c e (Some (Enter m n)) h = refl
@@ -304,13 +324,15 @@ add-other c e (Some (Show k)) h = refl
 
 -- What one call does.
 
--- what is asked for and what is done, with what is under way before and after
+-- a card's entries: with what was under way, what is asked for is what is done and what is under way then
 abbrev Entry-law : ℕ → Stage → Stage → List Place → List Place → Type 0
 Entry-law c g h more done = entry-under-way c g ++ places-of c more ≡ places-of c done ++ entry-under-way c h
 
+-- a card's adds
 abbrev Add-law : ℕ → Stage → Stage → List Sum → List Sum → Type 0
 Add-law c g h more done = add-under-way c g ++ sums-of c more ≡ sums-of c done ++ add-under-way c h
 
+-- both
 abbrev Law : ℕ → Stage → Stage → List Place → List Place → List Sum → List Sum → Type 0
 Law c g h more done asked summed = Entry-law c g h more done × Add-law c g h asked summed
 
@@ -324,15 +346,17 @@ still c g h more done asked summed e p q r s =
   , ap (λ (x : List Sum). add-under-way c g ++ x) r ∙ append-nil (add-under-way c g)
     ∙ ap (add-under-way c) (sym e) ∙ ap (λ (x : List Sum). x ++ add-under-way c h) (sym s) )
 
--- a request that is taken
+-- a card that enters has its entry under way
 first-entry : (c n : ℕ) (m : Mode) → entry-under-way c (first-stage n m) ≡ record { card = c; node = n; mode = m } ∷ []
 first-entry c n Read = refl
 first-entry c n Write = refl
 
+-- and no add
 first-add : (c n : ℕ) (m : Mode) → add-under-way c (first-stage n m) ≡ []
 first-add c n Read = refl
 first-add c n Write = refl
 
+-- a request that is taken
 taken-law : (c : ℕ) (w : Request) (g h : Stage) → Taken w g h
     → Law c g h (noted-entry c (Some w) []) [] (noted-add c (Some w) []) []
 taken-law c (Enter m n) g h t =
@@ -367,11 +391,13 @@ step-law c g (Err f) = by-refusal (f .refusal)
     by-refusal Already = (append-nil (entry-under-way c g), append-nil (add-under-way c g))
     by-refusal NoTransaction = (append-nil (entry-under-way c g), append-nil (add-under-way c g))
     by-refusal Doomed =
-      (append-nil (entry-under-way c g) ∙ sym (entry-begins c g), append-nil (add-under-way c g) ∙ sym (add-begins c g))
+      ( append-nil (entry-under-way c g) ∙ sym (entry-begins c g)
+      , append-nil (add-under-way c g) ∙ sym (add-begins c g) )
     by-refusal Full = (append-nil (entry-under-way c g), append-nil (add-under-way c g))
 
 -- The law of a book.
 
+-- what a card asked for is what it did, but for the one thing under way: its entries, and its adds
 pub record Lawful (b : Book) : Type 0 where
   pub entries : (c : ℕ) → places-of c (b .entries) ≡ places-of c (b .joinings) ++ entry-under-way c (stage b c)
   pub adds : (c : ℕ) → sums-of c (b .asked) ≡ sums-of c (b .finished) ++ add-under-way c (stage b c)
@@ -391,12 +417,13 @@ law-kept b d more done asked summed L p q r s h = record
           (add-under-way c (stage b c)) (add-under-way c (stage d c)) (L .adds c) (h c .1)
       ∙ ap (λ (x : List Sum). sums-of c x ++ add-under-way c (stage d c)) (sym s) }
 
--- a new book is lawful
+-- every card of a new board is idle
 idle-stage : (n c : ℕ) → getD (replicate n idle-card) c idle-card .stage ≡ Idle
 idle-stage zero c = refl
 idle-stage (suc n) zero = refl
 idle-stage (suc n) (suc c) = idle-stage n c
 
+-- a new book is lawful
 pub new-lawful : Lawful new-book
 unfolding new-door
 new-lawful = record
@@ -404,10 +431,11 @@ new-lawful = record
   ; adds = λ c. ap (add-under-way c) (sym (idle-stage 8 c)) }
 
 module _ (z : Size) (b : Book) (few : z .cards ≤ 8) (long : length (b .board .lock .cards) ≡ 8) (L : Lawful b) where
+  -- the lock before the call
   abbrev s : LockState
   s = b .board .lock
 
-  -- a request, judged by the lock: of its own card, and of another
+  -- a request that the lock judges, of its own card and of another: o is it where it is taken
   served-own : (e : ℕ) (w : Request) (t : LockState) (o : Option Request) → e < z .cards
       → ((t .cards ≡ s .cards) × ((o ≡ None) ⊎ ((o ≡ Some w) × Shows w)))
         ⊎ ((g : Stage) × (t .cards ≡ moved s e g) × (o ≡ Some w) × Taken w (stage-of s e) g)
@@ -437,8 +465,8 @@ module _ (z : Size) (b : Book) (few : z .cards ≤ 8) (long : length (b .board .
         (moved-other s t e c (q .0) (λ p. n (sym p)) (q .1)) (entry-other c e o n) refl (add-other c e o n) refl
       go (inl p) (inr q) =
         subst (λ (x : ℕ). Law x (stage-of s x) (stage-of t x) (noted-entry e o []) [] (noted-add e o []) []) p
-          (subst (λ (o : Option Request). Law e (stage-of s e) (stage-of t e) (noted-entry e o []) [] (noted-add e o []) [])
-            (sym (q .2))
+          (subst (λ (o : Option Request).
+              Law e (stage-of s e) (stage-of t e) (noted-entry e o []) [] (noted-add e o []) []) (sym (q .2))
             (taken-law e w (stage-of s e) (stage-of t e)
               (subst (Taken w (stage-of s e)) (sym (moved-same s t e (q .0) (omega arith) (q .1))) (q .3))))
 
@@ -461,14 +489,16 @@ module _ (z : Size) (b : Book) (few : z .cards ≤ 8) (long : length (b .board .
       go (inl p) = let lt = q .1 in
         subst (λ (x : ℕ). Law x (stage-of s x) (stage-of t x) [] (joined e d []) [] (summed e d [])) p
           (subst (λ (d : Deed). Law e (stage-of s e) (stage-of t e) [] (joined e d []) [] (summed e d [])) (sym (q .4))
-            (subst (λ (h : Stage). Law e (stage-of s e) h [] (joined e (cond (accepted r) (deed (stage-of s e)) plain) [])
+            (subst (λ (h : Stage). Law e (stage-of s e) h
+                [] (joined e (cond (accepted r) (deed (stage-of s e)) plain) [])
                 [] (summed e (cond (accepted r) (deed (stage-of s e)) plain) []))
               (sym (moved-same s t e (advanced (stage-of s e) r .0) (omega arith) cards-are))
               (step-law e (stage-of s e) r)))
 
   -- an abort: of its own card, and of another
   aborted-law : (e : ℕ) (t : LockState) → Aborted z s e t → (c : ℕ) → Law c (stage-of s c) (stage-of t c) [] [] [] []
-  aborted-law e t (inl q) c = still c (stage-of s c) (stage-of t c) [] [] [] [] (same-stage s t c q) refl refl refl refl
+  aborted-law e t (inl q) c =
+    still c (stage-of s c) (stage-of t c) [] [] [] [] (same-stage s t c q) refl refl refl refl
   aborted-law e t (inr q) c = go (cases-eq e c)
     where
       go : (e ≡ c) ⊎ (e ≡ c → ⊥) → Law c (stage-of s c) (stage-of t c) [] [] [] []
@@ -481,8 +511,11 @@ module _ (z : Size) (b : Book) (few : z .cards ≤ 8) (long : length (b .board .
             ( append-nil (entry-under-way e (stage-of s e)) ∙ sym (entry-begins e (stage-of s e))
             , append-nil (add-under-way e (stage-of s e)) ∙ sym (add-begins e (stage-of s e)) ))
 
-  request-law : (e t k x y c : ℕ) → Law c (stage-of s c) (stage-of (called z (b .board) (call.Request e t k x y) .1 .lock) c)
-      (noted-entry e (taken-request z (b .board) e t k x y) []) [] (noted-add e (taken-request z (b .board) e t k x y) []) []
+  -- a request, whatever the door and the lock say to it
+  request-law : (e t k x y c : ℕ)
+      → Law c (stage-of s c) (stage-of (called z (b .board) (call.Request e t k x y) .1 .lock) c)
+          (noted-entry e (taken-request z (b .board) e t k x y) []) []
+          (noted-add e (taken-request z (b .board) e t k x y) []) []
   request-law e t k x y = request-cases z (b .board) e t k x y
     (λ (u : LockState) (o : Option Request). (c : ℕ)
       → Law c (stage-of s c) (stage-of u c) (noted-entry e o []) [] (noted-add e o []) [])
@@ -496,7 +529,8 @@ module _ (z : Size) (b : Book) (few : z .cards ≤ 8) (long : length (b .board .
       some w a (inl q) = inl (q .0, inr (refl, q .1 a))
       some w a (inr q) = inr (q .0, q .1, refl, q .3)
       none : (w : Request) → accepted (served z s e w .0) ≡ false → Served s e w (served z s e w)
-          → ((served z s e w .1 .cards ≡ s .cards) × ((_≡_ {A = Option Request} None None) ⊎ ((None ≡ Some w) × Shows w)))
+          → ((served z s e w .1 .cards ≡ s .cards)
+              × ((_≡_ {A = Option Request} None None) ⊎ ((None ≡ Some w) × Shows w)))
             ⊎ ((g : Stage) × (served z s e w .1 .cards ≡ moved s e g) × (None ≡ Some w) × Taken w (stage-of s e) g)
       none w a (inl q) = inl (q .0, inl refl)
       none w a (inr q) = clash (accepted (served z s e w .0)) (q .2) a
@@ -506,12 +540,14 @@ module _ (z : Size) (b : Book) (few : z .cards ≤ 8) (long : length (b .board .
   lawful-after (call.Request e t k x y) =
     let w = taken-request z (b .board) e t k x y in
     law-kept b (after z b (call.Request e t k x y)) (noted-entry e w []) [] (noted-add e w []) [] L
-      (entry-is e w (b .entries)) (sym (append-nil (b .joinings))) (add-is e w (b .asked)) (sym (append-nil (b .finished)))
+      (entry-is e w (b .entries)) (sym (append-nil (b .joinings))) (add-is e w (b .asked))
+      (sym (append-nil (b .finished)))
       (request-law e t k x y)
   lawful-after (call.Step e) =
     let d = step-deed z s e in
     law-kept b (after z b (call.Step e)) [] (joined e d []) [] (summed e d []) L
-      (sym (append-nil (b .entries))) (joined-is e d (b .joinings)) (sym (append-nil (b .asked))) (summed-is e d (b .finished))
+      (sym (append-nil (b .entries))) (joined-is e d (b .joinings)) (sym (append-nil (b .asked)))
+      (summed-is e d (b .finished))
       (stepped-law e (called z (b .board) (call.Step e) .1 .lock) d (step-cases z (b .board) e))
   lawful-after (call.Abort e) =
     law-kept b (after z b (call.Abort e)) [] [] [] [] L

@@ -19,8 +19,10 @@ pub mod Steps
 pub mod Effects
 pub mod Frames
 pub mod Seats
+pub mod Counts
 pub mod Lists
 pub mod Turns
+pub mod Stores
 pub mod Stands
 pub mod Wakes
 pub mod Laws

@@ -36,10 +36,12 @@ without-length : (n : ℕ) (l : List ℕ) → length l ≤ suc (length (without 
 without-length n [] = omega arith
 without-length n (d ∷ l) = go (eqb d n) (without-length n l)
   where
-    go : (b : Bool) → length l ≤ suc (length (without n l)) → suc (length l) ≤ suc (length (cond b l (d ∷ without n l)))
+    go : (b : Bool) → length l ≤ suc (length (without n l))
+        → suc (length l) ≤ suc (length (cond b l (d ∷ without n l)))
     go true h = omega arith
     go false h = omega arith
 
+-- it has no others
 without-in : (n c : ℕ) (l : List ℕ) → In c (without n l) → In c l
 without-in n c [] i = i
 without-in n c (d ∷ l) i = go (eqb d n) (without-in n c l) i
@@ -49,6 +51,7 @@ without-in n c (d ∷ l) i = go (eqb d n) (without-in n c l) i
     go false h (inl e) = inl e
     go false h (inr i) = inr (h i)
 
+-- and none twice
 without-once : (n : ℕ) (l : List ℕ) → Once l → Once (without n l)
 without-once n [] u = tt
 without-once n (d ∷ l) u = go (eqb d n) (without-once n l (u .1))

@@ -57,6 +57,10 @@ active-is f (hands n q) a = clash false a refl
 
 -- Of a list of places, and of the chain of their cards.
 
+-- the place of a card on a node
+abbrev pub place : ℕ → ℕ → Mode → Place
+place c n m = record { card = c; node = n; mode = m }
+
 -- the card of a place is among the cards
 pub in-mid : (x : List Place) (p : Place) (y : List Place) → In (p .card) (cards-of (x ++ p ∷ y))
 in-mid [] p y = inl refl
@@ -84,7 +88,8 @@ seat-in S [] p y h = (h .0, h .1)
 seat-in S (a ∷ x) p y h = seat-in S x p y (h .2)
 
 -- no card comes again behind a place
-pub once-in : (x : List Place) (p : Place) (y : List Place) → Once (cards-of (x ++ p ∷ y)) → In (p .card) (cards-of y) → ⊥
+pub once-in : (x : List Place) (p : Place) (y : List Place) → Once (cards-of (x ++ p ∷ y))
+    → In (p .card) (cards-of y) → ⊥
 once-in [] p y h = h .0
 once-in (a ∷ x) p y h = once-in x p y (h .1)
 
@@ -101,6 +106,7 @@ ahead-active f V (e ∷ l) a o h d (inr i) r g =
   let j = joined-link (V a) o in
   ⊎-elim (λ z. absurd (omega arith)) (λ z. z) (h .0 .turnr (A .0) (A .1))
 
+-- a mode is known by whether it reads
 same-mode : (m n : Mode) → reads-mode m ≡ reads-mode n → m ≡ n
 same-mode Read Read e = refl
 same-mode Read Write e = clash true refl e
@@ -110,7 +116,7 @@ same-mode Write Write e = refl
 -- the place of a card in line
 pub place-of : (S : ℕ → Stage) (l : List Place) (c n : ℕ) (m : Mode) → Seated S l → In c (cards-of l)
     → link (view (S c)) ≡ suc n → reader (view (S c)) ≡ reads-mode m
-    → promise.In l (record { card = c; node = n; mode = m })
+    → promise.In l (place c n m)
 place-of S [] c n m s i k r = absurd i
 place-of S (p ∷ l) c n m s (inl e) k r = ([], l, ap (λ (q : Place). q ∷ l) here)
   where
@@ -120,18 +126,20 @@ place-of S (p ∷ l) c n m s (inl e) k r = ([], l, ap (λ (q : Place). q ∷ l) 
       let b : link (view (S (p .card))) ≡ suc n = ap (λ (x : ℕ). link (view (S x))) (sym e) ∙ k in omega arith
     mode-is : p .mode ≡ m
     mode-is = same-mode (p .mode) m (sym (s .1) ∙ ap (λ (x : ℕ). reader (view (S x))) (sym e) ∙ r)
-    here : p ≡ record { card = c; node = n; mode = m }
+    here : p ≡ place c n m
     here = λ i. record { card = sym e i; node = same-node i; mode = mode-is i }
 place-of S (p ∷ l) c n m s (inr i) k r =
   let w = place-of S l c n m (s .2) i k r in (p ∷ w .0, w .1, ap (λ (q : List Place). p ∷ q) (w .2))
 
 -- The promise of a book that keeps the invariant.
 
+-- a card in the middle of an add holds the lock as a writer does
 adds-view : (n : ℕ) (a : Addition) → view (Adds n a) ≡ holdsW n
 adds-view n (A1 k x) = refl
 adds-view n (A2 k x v) = refl
 
 module _ (z : Size) (b : Book) (I : Inv z b) where
+  -- the standing values, the stages, and the cards as the line sees them
   abbrev F : ℕ → ℕ
   F = standing (b .board .lock .meaning)
 
@@ -141,20 +149,23 @@ module _ (z : Size) (b : Book) (I : Inv z b) where
   abbrev V : ℕ → View
   V d = view (S d)
 
+  -- a place has the node and the mode of its card
   abbrev Seat-of : Place → Type 0
   Seat-of p = (link (V (p .card)) ≡ suc (p .node)) × (reader (V (p .card)) ≡ reads-mode (p .mode))
 
-  -- the chain, the seats and the cards of a line that is split
+  -- the chain of a line that is split
   chain-is : (l : List Place) → b .line ≡ l → Chain F V 0 (cards-of l)
   chain-is l e = subst (λ (l : List Place). Chain F V 0 (cards-of l)) e (I .kept .line .chain)
 
+  -- its seats
   seated-is : (l : List Place) → b .line ≡ l → Seated S l
   seated-is l e = subst (Seated S) e (I .seated)
 
+  -- its cards, each once
   once-is : (l : List Place) → b .line ≡ l → Once (cards-of l)
   once-is l e = subst (λ (l : List Place). Once (cards-of l)) e (I .kept .line .once)
 
-  -- a place in line has the node of its card, and the card is in line
+  -- so has every place in line
   seat : (x : List Place) (p : Place) (y : List Place) → b .line ≡ x ++ p ∷ y → Seat-of p
   seat x p y e = seat-in S x p y (seated-is (x ++ p ∷ y) e)
 
@@ -162,6 +173,7 @@ module _ (z : Size) (b : Book) (I : Inv z b) where
   spot : (p q : Place) → promise.Right-ahead (b .line) p q → Spot F (V (p .card)) (V (q .card))
   spot p q w = chain-from F V (w .0) p (q ∷ w .1) 0 (chain-is (w .0 ++ p ∷ q ∷ w .1) (w .2)) .1 .0
 
+  -- their seats
   seat-front : (p q : Place) → promise.Right-ahead (b .line) p q → Seat-of p
   seat-front p q w = seat (w .0) p (q ∷ w .1) (w .2)
 
@@ -172,12 +184,15 @@ module _ (z : Size) (b : Book) (I : Inv z b) where
   ahead-is : (p q : Place) (w : promise.Ahead (b .line) p q) → b .line ≡ w .0 ++ p ∷ (w .1 ++ q ∷ w .2)
   ahead-is p q w = w .3 ∙ append-assoc (w .0) (p ∷ w .1) (q ∷ w .2)
 
+  -- the facts of the last
   end-of : (p : Place) → promise.Last (b .line) p → End F (V (p .card))
   end-of p w = chain-from F V (w .0) p [] 0 (chain-is (w .0 ++ p ∷ []) (w .1)) .1
 
+  -- a cell of a card's node, by the place's node
   cell-at : (c n m : ℕ) (g : ℕ → ℕ) → link (V c) ≡ suc n → F (g (node (V c))) ≡ m → F (g n) ≡ m
   cell-at c n m g e h = ap (λ (x : ℕ). F (g x)) (sym (node-is (V c) n e)) ∙ h
 
+  -- the line stands in the cells
   pub line-stands : Line-stands (cells-of b) (b .line)
   line-stands = record
     { linked = λ p q w.
@@ -207,30 +222,31 @@ module _ (z : Size) (b : Book) (I : Inv z b) where
 
   -- the place of a card that is in line
   pub in-place : (c n : ℕ) (m : Mode) → joined (V c) ≡ true → link (V c) ≡ suc n → reader (V c) ≡ reads-mode m
-      → promise.In (b .line) (record { card = c; node = n; mode = m })
+      → promise.In (b .line) (place c n m)
   in-place c n m j k r = place-of S (b .line) c n m (I .seated) (I .kept .line .members c j) k r
 
+  -- a card inside to write holds the lock
   inside-view : (c n : ℕ) → promise.Writes-inside b c n → V c ≡ holdsW n
   inside-view c n (inl e) = ap view e
   inside-view c n (inr w) = ap view (w .1) ∙ adds-view n (w .0)
 
   -- a writer that is let in is first
-  pub holder-first : (c n : ℕ) → V c ≡ holdsW n → promise.First (b .line) (record { card = c; node = n; mode = Write })
+  pub holder-first : (c n : ℕ) → V c ≡ holdsW n → promise.First (b .line) (place c n Write)
   holder-first c n v = go (in-place c n Write (ap joined v) (ap link v) (ap reader v))
     where
-      go : promise.In (b .line) (record { card = c; node = n; mode = Write })
-          → promise.First (b .line) (record { card = c; node = n; mode = Write })
+      go : promise.In (b .line) (place c n Write)
+          → promise.First (b .line) (place c n Write)
       go w = ⊎-elim
-        (λ h. (w .1, w .2 ∙ ap (λ (x : List Place). x ++ record { card = c; node = n; mode = Write } ∷ w .1) (h .0)))
+        (λ h. (w .1, w .2 ∙ ap (λ (x : List Place). x ++ place c n Write ∷ w .1) (h .0)))
         (λ h. let j = joined-link (V (h .0)) (h .1) in
           let o : link (V (h .0)) ≡ 0 = h .2 .turnw (ap reader v) (ap (granted F) v) in absurd (omega arith))
-        (first-or-behind F V (w .0) (record { card = c; node = n; mode = Write }) (w .1)
-          (chain-is (w .0 ++ record { card = c; node = n; mode = Write } ∷ w .1) (w .2)))
+        (first-or-behind F V (w .0) (place c n Write) (w .1)
+          (chain-is (w .0 ++ place c n Write ∷ w .1) (w .2)))
 
   -- no card behind a writer that is let in is an active reader
   none-behind : (c n d k : ℕ) → V c ≡ holdsW n → V d ≡ activeR k → d ≡ c
   none-behind c n d k v u = let w = holder-first c n v in
-    go (w .0) (chain-is (record { card = c; node = n; mode = Write } ∷ w .0) (w .1))
+    go (w .0) (chain-is (place c n Write ∷ w .0) (w .1))
       (subst (λ (l : List Place). In d (cards-of l)) (w .1) (I .kept .line .members d (ap joined u)))
     where
       go : (y : List Place) → Chain F V 0 (c ∷ cards-of y) → In d (c ∷ cards-of y) → d ≡ c
@@ -239,23 +255,25 @@ module _ (z : Size) (b : Book) (I : Inv z b) where
         (ahead-active F V (cards-of y) c (h .0 .in-line) (h .1) d i (ap reader u) (ap (granted F) u)) (ap active v)
 
   -- one line has one first card
-  heads : (c d n k : ℕ) {x y : List Place} → b .line ≡ record { card = c; node = n; mode = Write } ∷ x
-      → b .line ≡ record { card = d; node = k; mode = Write } ∷ y → d ≡ c
+  heads : (c d n k : ℕ) {x y : List Place} → b .line ≡ place c n Write ∷ x
+      → b .line ≡ place d k Write ∷ y → d ≡ c
   heads c d n k p q = let u = ap cards-of p in let v = ap cards-of q in cc
 
+  -- who is inside
   pub inside-stands : Inside-stands (cells-of b) b
   inside-stands = record
     { first = λ c n w. holder-first c n (inside-view c n w)
     ; alone = λ c d n k w o. alone c d n k (inside-view c n w) o
-    ; reading = λ c n e. let v : V c ≡ activeR n = ap view e in in-place c n Read (ap joined v) (ap link v) (ap reader v)
+    ; reading = λ c n e. let v : V c ≡ activeR n = ap view e in
+        in-place c n Read (ap joined v) (ap link v) (ap reader v)
     ; behind-active = λ c n e a w. let v : V c ≡ activeR n = ap view e in
-        let h = chain-from F V (w .0) a (w .1 ++ record { card = c; node = n; mode = Read } ∷ w .2) 0
-          (chain-is (w .0 ++ a ∷ (w .1 ++ record { card = c; node = n; mode = Read } ∷ w .2)) (ahead-is a _ w)) in
-        let s = seat (w .0) a (w .1 ++ record { card = c; node = n; mode = Read } ∷ w .2) (ahead-is a _ w) in
+        let h = chain-from F V (w .0) a (w .1 ++ place c n Read ∷ w .2) 0
+          (chain-is (w .0 ++ a ∷ (w .1 ++ place c n Read ∷ w .2)) (ahead-is a _ w)) in
+        let s = seat (w .0) a (w .1 ++ place c n Read ∷ w .2) (ahead-is a _ w) in
         cell-at (a .card) (a .node) 3 state (s .0)
           (active-state F (V (a .card)) (h .0) (I .kept .line .cells (a .card)) .0
-            (ahead-active F V (cards-of (w .1 ++ record { card = c; node = n; mode = Read } ∷ w .2)) (a .card) (h .0) (h .1)
-              c (in-mid (w .1) (record { card = c; node = n; mode = Read }) (w .2)) (ap reader v) (ap (granted F) v)))
+            (ahead-active F V (cards-of (w .1 ++ place c n Read ∷ w .2)) (a .card)
+              (h .0) (h .1) c (in-mid (w .1) (place c n Read) (w .2)) (ap reader v) (ap (granted F) v)))
     ; active-reads = λ a w h.
         let s = seat (w .0) a (w .1) (w .2) in
         let j = chain-from F V (w .0) a (w .1) 0 (chain-is (w .0 ++ a ∷ w .1) (w .2)) .0 in

@@ -49,17 +49,19 @@ use Rattle.board.specs.Book.{Deed, plain, deed, deed-by, step-deed, accepted, 
 abbrev pub moved : LockState → ℕ → Stage → List Card
 moved s c g = set (s .cards) c (record { stage = g })
 
--- the stage of the card that was moved, and of every other
+-- the stage of the card that was moved
 pub moved-same : (s : LockState) (t : LockState) (c : ℕ) (g : Stage) → c < length (s .cards)
     → t .cards ≡ moved s c g → stage-of t c ≡ g
 moved-same s t c g lt e = ap (λ (l : List Card). stage-of (record { meaning = t .meaning; cards = l }) c) e
   ∙ ap (λ (r : Card). r .stage) (getD-set-same (s .cards) c (record { stage = g }) idle-card lt)
 
+-- the stage of every other card
 pub moved-other : (s : LockState) (t : LockState) (c d : ℕ) (g : Stage) → (d ≡ c → ⊥)
     → t .cards ≡ moved s c g → stage-of t d ≡ stage-of s d
 moved-other s t c d g n e = ap (λ (l : List Card). stage-of (record { meaning = t .meaning; cards = l }) d) e
   ∙ ap (λ (r : Card). r .stage) (getD-set-other (s .cards) c d (record { stage = g }) idle-card n)
 
+-- the stage of a card where nobody was moved
 pub same-stage : (s : LockState) (t : LockState) (d : ℕ) → t .cards ≡ s .cards → stage-of t d ≡ stage-of s d
 same-stage s t d e = ap (λ (l : List Card). stage-of (record { meaning = t .meaning; cards = l }) d) e
 
@@ -68,7 +70,8 @@ same-stage s t d e = ap (λ (l : List Card). stage-of (record { meaning = t .mea
 -- where a request that the lock takes moves its card from and to
 abbrev pub Taken : Request → Stage → Stage → Type 0
 Taken (Enter m n) g h = (g ≡ Idle) × (h ≡ first-stage n m)
-Taken Leave g h = (n : ℕ) × (((g ≡ Inside n Read) × (h ≡ ReaderLeaves n Y1)) ⊎ ((g ≡ Inside n Write) × (h ≡ WriterLeaves n X1)))
+Taken Leave g h =
+  (n : ℕ) × (((g ≡ Inside n Read) × (h ≡ ReaderLeaves n Y1)) ⊎ ((g ≡ Inside n Write) × (h ≡ WriterLeaves n X1)))
 Taken (Add k a) g h = (n : ℕ) × (g ≡ Inside n Write) × (h ≡ Adds n (A1 k a))
 Taken (Show k) g h = ⊥
 
@@ -84,20 +87,24 @@ abbrev pub Served : LockState → ℕ → Request → Turn → Type 0
 Served s c w t = ((t .1 .cards ≡ s .cards) × (accepted (t .0) ≡ true → Shows w))
   ⊎ ((g : Stage) × (t .1 .cards ≡ moved s c g) × (accepted (t .0) ≡ true) × Taken w (stage-of s c) g)
 
+-- a refusal
 refused : (s : LockState) (c : ℕ) (w : Request) (f : LockFault) → Served s c w (refuses s f)
 refused s c w f = inl (refl, λ e. absurd (grind arith))
 
+-- an enter, by whether its stores are accepted
 entered-moves : (s : LockState) (c : ℕ) (m : Mode) (n : ℕ) → stage-of s c ≡ Idle
     → (r : Result (Unit {0}) LockFault) (o : Meaning) → Served s c (Enter m n) (enter-by s c (first-stage n m) (r, o))
 entered-moves s c m n e (Ok u) o = inr (first-stage n m, refl, refl, (e, refl))
 entered-moves s c m n e (Err f) o = inl (refl, λ e. absurd (grind arith))
 
+-- an enter, by the card's stage
 enter-moves : (z : Size) (s : LockState) (c : ℕ) (m : Mode) (n : ℕ) (g : Stage) → stage-of s c ≡ g
     → Served s c (Enter m n) (enter-at z s c m n g)
 enter-moves z s c m n Idle e =
   by-test (Served s c (Enter m n)) (ltb n (z .nodes)) _ (refuses s NoPlace)
     (by-test (Served s c (Enter m n)) (free (s .cards) n) _ (refuses s NotFree)
-      (entered-moves s c m n e (stores c (entry-stores n m) (s .meaning) .0) (stores c (entry-stores n m) (s .meaning) .1))
+      (entered-moves s c m n e (stores c (entry-stores n m) (s .meaning) .0)
+        (stores c (entry-stores n m) (s .meaning) .1))
       (refused s c (Enter m n) NotFree))
     (refused s c (Enter m n) NoPlace)
 enter-moves z s c m n (WriterEnters k at) e = refused s c (Enter m n) NotAllowed
@@ -107,6 +114,7 @@ enter-moves z s c m n (Adds k at) e = refused s c (Enter m n) NotAllowed
 enter-moves z s c m n (WriterLeaves k at) e = refused s c (Enter m n) NotAllowed
 enter-moves z s c m n (ReaderLeaves k at) e = refused s c (Enter m n) NotAllowed
 
+-- a request of a card inside, by the card's stage
 inside-moves : (s : LockState) (c : ℕ) (w : Request) (k : ℕ → Mode → Turn) (g : Stage) → stage-of s c ≡ g
     → ((n : ℕ) (m : Mode) → stage-of s c ≡ Inside n m → Served s c w (k n m)) → Served s c w (inside-by s k g)
 inside-moves s c w k Idle e h = refused s c w NotAllowed
@@ -117,10 +125,12 @@ inside-moves s c w k (Adds n at) e h = refused s c w NotAllowed
 inside-moves s c w k (WriterLeaves n at) e h = refused s c w NotAllowed
 inside-moves s c w k (ReaderLeaves n at) e h = refused s c w NotAllowed
 
+-- a leave
 leave-moves : (s : LockState) (c n : ℕ) (m : Mode) → stage-of s c ≡ Inside n m → Served s c Leave (leave-at s c n m)
 leave-moves s c n Read e = inr (ReaderLeaves n Y1, refl, refl, (n, inl (e, refl)))
 leave-moves s c n Write e = inr (WriterLeaves n X1, refl, refl, (n, inr (e, refl)))
 
+-- an add
 add-moves : (z : Size) (s : LockState) (c k a n : ℕ) (m : Mode) → stage-of s c ≡ Inside n m
     → Served s c (Add k a) (add-at z s c k a n m)
 add-moves z s c k a n Read e = refused s c (Add k a) NotAllowed
@@ -128,6 +138,7 @@ add-moves z s c k a n Write e = by-test (Served s c (Add k a)) (ltb k (z .counte
   (Ok Done, staged s (s .meaning) c (Adds n (A1 k a))) (refuses s NoPlace)
   (inr (Adds n (A1 k a), refl, refl, (n, e, refl))) (refused s c (Add k a) NoPlace)
 
+-- a show
 count-moves : (s : LockState) (c k : ℕ) (r : Result ℕ MemoryFault) (m : Meaning) → Served s c (Show k) (count-by s r m)
 count-moves s c k (Ok v) m = inl (refl, λ _. tt)
 count-moves s c k (Err f) m = inl (refl, λ _. tt)
@@ -137,7 +148,8 @@ pub served-moves : (z : Size) (s : LockState) (c : ℕ) (w : Request) → Served
 served-moves z s c (Enter m n) = by-test (Served s c (Enter m n)) (ltb c (z .cards)) _ (refuses s NoCard)
   (enter-moves z s c m n (stage-of s c) refl) (refused s c (Enter m n) NoCard)
 served-moves z s c Leave = by-test (Served s c Leave) (ltb c (z .cards)) _ (refuses s NoCard)
-  (inside-moves s c Leave (leave-at s c) (stage-of s c) refl (λ n m e. leave-moves s c n m e)) (refused s c Leave NoCard)
+  (inside-moves s c Leave (leave-at s c) (stage-of s c) refl (λ n m e. leave-moves s c n m e))
+  (refused s c Leave NoCard)
 served-moves z s c (Add k a) = by-test (Served s c (Add k a)) (ltb c (z .cards)) _ (refuses s NoCard)
   (inside-moves s c (Add k a) (add-at z s c k a) (stage-of s c) refl (λ n m e. add-moves z s c k a n m e))
   (refused s c (Add k a) NoCard)
@@ -150,9 +162,12 @@ served-moves z s c (Show k) = by-test (Served s c (Show k)) (ltb c (z .cards)) _
   (refused s c (Show k) NoCard)
 
 -- a request is refused at the door or a resend and does nothing, or the lock judges it; then it is taken or refused
-pub request-cases : (z : Size) (s : DoorState) (c t k x y : ℕ) (P : LockState → Option Request → Type 0) → P (s .lock) None
-    → ((w : Request) → c < z .cards → accepted (served z (s .lock) c w .0) ≡ true → P (served z (s .lock) c w .1) (Some w))
-    → ((w : Request) → c < z .cards → accepted (served z (s .lock) c w .0) ≡ false → P (served z (s .lock) c w .1) None)
+pub request-cases : (z : Size) (s : DoorState) (c t k x y : ℕ) (P : LockState → Option Request → Type 0)
+    → P (s .lock) None
+    → ((w : Request) → c < z .cards → accepted (served z (s .lock) c w .0) ≡ true
+        → P (served z (s .lock) c w .1) (Some w))
+    → ((w : Request) → c < z .cards → accepted (served z (s .lock) c w .0) ≡ false
+        → P (served z (s .lock) c w .1) None)
     → P (called z s (call.Request c t k x y) .1 .lock) (taken-request z s c t k x y)
 unfolding called
 request-cases z s c t k x y P none some refused = by-card (ltb c (z .cards)) refl
@@ -162,7 +177,8 @@ request-cases z s c t k x y P none some refused = by-card (ltb c (z .cards)) ref
     by-accept w lt true e = some w lt e
     by-accept w lt false e = refused w lt e
     by-toggle : (w : Request) → c < z .cards → (b : Bool)
-        → P ((cond b (resent (memo-of s c .request) w (memo-of s c .answer), s) (noted s c t w (served z (s .lock) c w))) .1 .lock)
+        → P ((cond b (resent (memo-of s c .request) w (memo-of s c .answer), s)
+              (noted s c t w (served z (s .lock) c w))) .1 .lock)
             (cond b None (cond (accepted (served z (s .lock) c w .0)) (Some w) None))
     by-toggle w lt true = none
     by-toggle w lt false = by-accept w lt (accepted (served z (s .lock) c w .0)) refl
@@ -181,9 +197,11 @@ request-cases z s c t k x y P none some refused = by-card (ltb c (z .cards)) ref
 abbrev pub Stepped : Size → LockState → ℕ → LockState → Deed → Type 0
 Stepped z s c t d = ((t ≡ s) × (d ≡ plain))
   ⊎ ((k : MemoryCall) × (c < z .cards) × (call-of (z .nodes) c (stage-of s c) ≡ Some k)
-    × (t ≡ staged s (performed (s .meaning) k .after) c (advanced (stage-of s c) (performed (s .meaning) k .answer) .0))
+    × (t ≡ staged s (performed (s .meaning) k .after) c
+        (advanced (stage-of s c) (performed (s .meaning) k .answer) .0))
     × (d ≡ cond (accepted (performed (s .meaning) k .answer)) (deed (stage-of s c)) plain))
 
+-- each step is so
 pub step-cases : (z : Size) (s : DoorState) (c : ℕ)
     → Stepped z (s .lock) c (called z s (call.Step c) .1 .lock) (step-deed z (s .lock) c)
 unfolding called
@@ -195,8 +213,10 @@ step-cases z s c = by-card (ltb c (z .cards)) refl
     by-call lt (Some k) e = inr (k, lt, e, refl, refl)
     by-card : (b : Bool) → ltb c (z .cards) ≡ b
         → Stepped z (s .lock) c
-            ((cond b (step-by (s .lock) c (call-of (z .nodes) c (stage-of (s .lock) c))) (refuses (s .lock) NoCard)) .1)
-            (cond b (deed-by (s .lock .meaning) (stage-of (s .lock) c) (call-of (z .nodes) c (stage-of (s .lock) c))) plain)
+            ((cond b (step-by (s .lock) c (call-of (z .nodes) c (stage-of (s .lock) c)))
+              (refuses (s .lock) NoCard)) .1)
+            (cond b (deed-by (s .lock .meaning) (stage-of (s .lock) c)
+              (call-of (z .nodes) c (stage-of (s .lock) c))) plain)
     by-card true e = by-call (ltb-true c (z .cards) e) (call-of (z .nodes) c (stage-of (s .lock) c)) refl
     by-card false e = inl (refl, refl)
 
@@ -217,6 +237,7 @@ Aborted z s c t = (t .cards ≡ s .cards)
   ⊎ ((k : MemoryCall) × (c < z .cards) × (call-of (z .nodes) c (stage-of s c) ≡ Some k) × (in-transaction k ≡ true)
     × (t .cards ≡ moved s c (begin-of (stage-of s c))))
 
+-- each abort is so
 pub abort-cases : (z : Size) (s : DoorState) (c : ℕ) → Aborted z (s .lock) c (called z s (call.Abort c) .1 .lock)
 unfolding called
 abort-cases z s c = by-card (ltb c (z .cards)) refl
@@ -239,7 +260,8 @@ abort-cases z s c = by-card (ltb c (z .cards)) refl
     by-call lt (Some k) e = by-kind k lt e (in-transaction k) refl
     by-card : (b : Bool) → ltb c (z .cards) ≡ b
         → Aborted z (s .lock) c
-            ((cond b (abort-by (s .lock) c (call-of (z .nodes) c (stage-of (s .lock) c))) (refuses (s .lock) NoCard)) .1)
+            ((cond b (abort-by (s .lock) c (call-of (z .nodes) c (stage-of (s .lock) c)))
+              (refuses (s .lock) NoCard)) .1)
     by-card true e = by-call (ltb-true c (z .cards) e) (call-of (z .nodes) c (stage-of (s .lock) c)) refl
     by-card false e = inl refl
 
@@ -258,7 +280,8 @@ reuse-cards z s c n v =
     by-stage : (g : Stage) → Same (reuse-at z (s .lock) c n v g)
     by-stage Idle = by-test Same (ltb n (z .nodes)) _ (refuses (s .lock) NoPlace)
       (by-test Same (free (s .lock .cards) n) _ (refuses (s .lock) NotFree)
-        (by-answer (stores c (reuse-stores n v) (s .lock .meaning) .0) (stores c (reuse-stores n v) (s .lock .meaning) .1)) refl) refl
+        (by-answer (stores c (reuse-stores n v) (s .lock .meaning) .0)
+          (stores c (reuse-stores n v) (s .lock .meaning) .1)) refl) refl
     by-stage (WriterEnters k at) = refl
     by-stage (ReaderEnters k at) = refl
     by-stage (Inside k j) = refl

@@ -80,7 +80,8 @@ drop-cells m c = by-test (λ (o : Outcome (Unit {0})). o .after .cells ≡ m .ce
 -- an abort, whoever asks
 abort-cells : (z : Size) (b : Book) (c : ℕ) → cells-of (after z b (call.Abort c)) ≡ cells-of b
 unfolding called
-abort-cells z b c = by-test Same (ltb c (z .cards)) (abort-by s c (call-of (z .nodes) c (stage-of s c))) (refuses s NoCard)
+abort-cells z b c =
+  by-test Same (ltb c (z .cards)) (abort-by s c (call-of (z .nodes) c (stage-of s c))) (refuses s NoCard)
     (by-call (call-of (z .nodes) c (stage-of s c))) refl
   where
     s : LockState
@@ -93,7 +94,8 @@ abort-cells z b c = by-test Same (ltb c (z .cards)) (abort-by s c (call-of (z .n
     by-call : (o : Option MemoryCall) → Same (abort-by s c o)
     by-call None = refl
     by-call (Some k) = by-test Same (in-transaction k)
-      (drop-by s c (performed (s .meaning) (memory-call.Drop c) .answer) (performed (s .meaning) (memory-call.Drop c) .after))
+      (drop-by s c (performed (s .meaning) (memory-call.Drop c) .answer)
+        (performed (s .meaning) (memory-call.Drop c) .after))
       (refuses s NotAllowed) (by-answer (performed (s .meaning) (memory-call.Drop c) .answer)) refl
 
 -- the cells of two nodes are apart
@@ -103,6 +105,7 @@ other-node k n Prev h w = let p = w .0 in let q = w .1 in h (omega arith)
 other-node k n State h w = let p = w .0 in let q = w .1 in h (omega arith)
 other-node k n Spin h w = let p = w .0 in let q = w .1 in h (omega arith)
 
+-- a card that enters has its node
 first-link : (k : ℕ) (m : Mode) → link (view (first-stage k m)) ≡ suc k
 first-link k Read = refl
 first-link k Write = refl
@@ -110,6 +113,7 @@ first-link k Write = refl
 -- A request on a book that keeps the invariant, and a cell of a node that is free before and after it.
 
 module _ (z : Size) (W : Within z) (b : Book) (I : Inv z b) (n : ℕ) (x : Field) where
+  -- the lock before the call, and its standing values
   abbrev s : LockState
   s = b .board .lock
 
@@ -120,7 +124,7 @@ module _ (z : Size) (W : Within z) (b : Book) (I : Inv z b) (n : ℕ) (x : Field
   abbrev Keeps : LockState → Type 0
   Keeps t = free (t .cards) n ≡ true → standing (t .meaning) (node-cell n x) ≡ F (node-cell n x)
 
-  -- an enter: it stores into its own node alone, which is not free then
+  -- an enter that is accepted: it stores into its own node alone, which is not free then
   entered-keeps : (c k : ℕ) (m : Mode) → c < z .cards → (r : Result (Unit {0}) LockFault) (o : Meaning) → r ≡ Ok tt
       → standing o ≡ stored (entry-stores k m) F → Keeps (enter-by s c (first-stage k m) (r, o) .1)
   entered-keeps c k m lt (Err f) o e h free-after = let w : _≡_ {A = ℕ} 0 1 = cc in absurd (omega arith)
@@ -136,14 +140,15 @@ module _ (z : Size) (W : Within z) (b : Book) (I : Inv z b) (n : ℕ) (x : Field
       apart e = free-unheld t n free-after c
         (ap (λ (g : Stage). link (view g)) (moved-same s t c (first-stage k m) long refl) ∙ first-link k m ∙ ap suc e)
 
+  -- by the card's stage
   enter-keeps : (c k : ℕ) (m : Mode) → c < z .cards → (g : Stage) → stage-of s c ≡ g → Keeps (enter-at z s c m k g .1)
   enter-keeps c k m lt Idle e =
     cond-both (ltb k (z .nodes)) _ (refuses s NoPlace) (λ (t : Turn). Keeps (t .1))
       (λ q. by-test (λ (t : Turn). Keeps (t .1)) (free (s .cards) k)
         (enter-by s c (first-stage k m) (stores c (entry-stores k m) (s .meaning))) (refuses s NotFree)
         (let D = done (ltb-true k (z .nodes) q) in
-          entered-keeps c k m lt (stores c (entry-stores k m) (s .meaning) .0) (stores c (entry-stores k m) (s .meaning) .1)
-            (D .answer) (D .cell))
+          entered-keeps c k m lt (stores c (entry-stores k m) (s .meaning) .0)
+            (stores c (entry-stores k m) (s .meaning) .1) (D .answer) (D .cell))
         (λ _. refl))
       (λ q _. refl)
     where
@@ -159,7 +164,9 @@ module _ (z : Size) (W : Within z) (b : Book) (I : Inv z b) (n : ℕ) (x : Field
   enter-keeps c k m lt (WriterLeaves i at) e = λ _. refl
   enter-keeps c k m lt (ReaderLeaves i at) e = λ _. refl
 
-  inside-keeps : (k : ℕ → Mode → Turn) (g : Stage) → ((i : ℕ) (m : Mode) → Keeps (k i m .1)) → Keeps (inside-by s k g .1)
+  -- a card inside, by what it does there
+  inside-keeps : (k : ℕ → Mode → Turn) (g : Stage) → ((i : ℕ) (m : Mode) → Keeps (k i m .1))
+      → Keeps (inside-by s k g .1)
   inside-keeps k Idle h = λ _. refl
   inside-keeps k (WriterEnters i at) h = λ _. refl
   inside-keeps k (ReaderEnters i at) h = λ _. refl
@@ -168,6 +175,7 @@ module _ (z : Size) (W : Within z) (b : Book) (I : Inv z b) (n : ℕ) (x : Field
   inside-keeps k (WriterLeaves i at) h = λ _. refl
   inside-keeps k (ReaderLeaves i at) h = λ _. refl
 
+  -- a leave and an add store nothing
   leave-keeps : (c i : ℕ) (m : Mode) → Keeps (leave-at s c i m .1)
   leave-keeps c i Read = λ _. refl
   leave-keeps c i Write = λ _. refl

@@ -1,4 +1,4 @@
--- No lost wake: where a turn has come, some card is about to store 0 into the spin, and nothing but its own steps moves it.
+-- No lost wake: where a turn has come, some card is about to store 0 into the spin, and only its own steps move it.
 use mathlib.Core.Path.{_≡_, refl, sym, subst, _∙_, ap}
 use mathlib.Core.Bool.{Bool, true, false}
 use mathlib.Core.List.{List, [], _∷_, _++_}
@@ -50,7 +50,7 @@ use Rattle.board.proofs.Join.{active-state}
 use Rattle.board.proofs.Moves.{aimed}
 use Rattle.board.proofs.Turns.{moved-same, moved-other, same-stage, Taken, Served, served-moves, request-cases}
 use Rattle.board.proofs.Turns.{step-cases, step-is, abort-cases, reuse-cards}
-use Rattle.board.proofs.Stands.{node-is, chain-from, seat-in, in-place}
+use Rattle.board.proofs.Stands.{place, node-is, chain-from, seat-in, in-place}
 
 -- Tables: who is about to wake the node m.
 
@@ -147,10 +147,13 @@ by-transaction (Some k) = in-transaction k
 
 -- no request is taken at the stage, and no abort
 pub record Firm (g : Stage) : Type 0 where
+  -- the card is not idle, and not inside
   pub busy : g ≡ Idle → ⊥
   pub apart : (n : ℕ) (m : Mode) → g ≡ Inside n m → ⊥
+  -- and it has no transaction
   pub alone : (N c : ℕ) → by-transaction (call-of N c g) ≡ false
 
+-- a card about to wake another, and a reader that waits, are at firm stages
 firm-x5 : (n q : ℕ) → Firm (WriterLeaves n (X5 q))
 firm-x5 n q = record
   { busy = λ e. let w : _≡_ {A = ℕ} 0 1 = cc in omega arith
@@ -196,12 +199,13 @@ one-call d (call.Step c) cs h = ((h .0, tt), h .1)
 one-call d (call.Abort c) cs h = (tt, h)
 one-call d (call.Reuse c n v) cs h = (tt, h)
 
--- a call other than a step of card d leaves it at a firm stage
+-- no other call than a step of card d takes it from a firm stage
 pub firm-stays : (z : Size) (b : Book) (d : ℕ) (g : Stage) → Firm g → stage b d ≡ g → (k : Call) → No-step d (k ∷ [])
     → stage (after z b k) d ≡ g
 firm-stays z b d g F e (call.Request c t k x y) h =
   request-cases z (b .board) c t k x y (λ (u : LockState) (o : Option Request). stage-of u d ≡ g) e
-    (λ w lt a. judged w (served-moves z (b .board .lock) c w)) (λ w lt a. judged w (served-moves z (b .board .lock) c w))
+    (λ w lt a. judged w (served-moves z (b .board .lock) c w))
+    (λ w lt a. judged w (served-moves z (b .board .lock) c w))
   where
     judged : (w : Request) → Served (b .board .lock) c w (served z (b .board .lock) c w)
         → stage-of (served z (b .board .lock) c w .1) d ≡ g
@@ -223,11 +227,13 @@ firm-stays z b d g F e (call.Abort c) h = ⊎-elim
       clash (in-transaction (q .0)) (q .3)
         (sym (ap by-transaction (q .2)) ∙ ap (λ (x : Stage). by-transaction (call-of (z .nodes) c x)) same
           ∙ F .alone (z .nodes) c))
-    (λ n. moved-other (b .board .lock) (called z (b .board) (call.Abort c) .1 .lock) c d _ n (q .4) ∙ e) (cases-eq d c))
+    (λ n. moved-other (b .board .lock) (called z (b .board) (call.Abort c) .1 .lock) c d _ n (q .4) ∙ e)
+    (cases-eq d c))
   (abort-cases z (b .board) c)
 firm-stays z b d g F e (call.Reuse c n v) h =
   same-stage (b .board .lock) (called z (b .board) (call.Reuse c n v) .1 .lock) d (reuse-cards z (b .board) c n v) ∙ e
 
+-- nor does a list of such calls
 pub firm-fed : (z : Size) (b : Book) (d : ℕ) (g : Stage) → Firm g → stage b d ≡ g → (cs : List Call) → No-step d cs
     → stage (fed-from z b cs) d ≡ g
 firm-fed z b d g F e [] h = e
@@ -237,6 +243,7 @@ firm-fed z b d g F e (k ∷ cs) h = let q = one-call d k cs h in
 -- Steps that wake.
 
 module _ (z : Size) (W : Within z) (b : Book) (I : Inv z b) where
+  -- the standing values, the transactions, and the cards as the line sees them
   abbrev F : ℕ → ℕ
   F = standing (b .board .lock .meaning)
 
@@ -256,7 +263,8 @@ module _ (z : Size) (W : Within z) (b : Book) (I : Inv z b) where
   row-seen d k lt e = let w = W .cards in
     bridge (b .board .lock .meaning) (I .kept .cells) (I .kept .txs) d (omega arith) k
       (ranged (z .nodes) (z .counters) d (stage b d) (W .nodes) (W .counters) (I .kept .sound d) k e)
-      (recorded (z .nodes) (z .counters) F (stage b d) (T d) (W .nodes) (I .kept .sound d) (I .kept .isolated .agrees d))
+      (recorded (z .nodes) (z .counters) F (stage b d) (T d) (W .nodes) (I .kept .sound d)
+        (I .kept .isolated .agrees d))
 
   -- the same of a stage without a transaction
   row-alone : (d : ℕ) (g : Stage) (k : MemoryCall) → d < z .cards → stage b d ≡ g → in-tx g ≡ false
@@ -283,8 +291,10 @@ module _ (z : Size) (W : Within z) (b : Book) (I : Inv z b) where
   step-loads d a g lt e i q =
     moved-same (b .board .lock) (called z (b .board) (call.Step d) .1 .lock) d
       (advanced (stage b d) (performed (b .board .lock .meaning) (memory-call.Load d a) .answer) .0) long
-      (ap (λ (u : LockState). u .cards) (step-is z (b .board) d (memory-call.Load d a) lt (ap (call-of (z .nodes) d) e ∙ q)))
-    ∙ ap (λ (r : Result ℕ MemoryFault). advanced (stage b d) r .0) (row-alone d g (memory-call.Load d a) lt e i q .answer)
+      (ap (λ (u : LockState). u .cards)
+        (step-is z (b .board) d (memory-call.Load d a) lt (ap (call-of (z .nodes) d) e ∙ q)))
+    ∙ ap (λ (r : Result ℕ MemoryFault). advanced (stage b d) r .0)
+        (row-alone d g (memory-call.Load d a) lt e i q .answer)
     ∙ ap (λ (x : Stage). advanced x (Ok (F a)) .0) e
     where
       long : d < length (b .board .lock .cards)
@@ -295,26 +305,29 @@ r8-waits : (m v : ℕ) → (v ≡ 0 → ⊥) → advanced (ReaderEnters m R8) (O
 r8-waits m zero h = absurd (h refl)
 r8-waits m (suc v) h = refl
 
--- a card that waits is in line with its node, and its spin at 0 lets it in
+-- a card that waits is in line with its node and its mode
 waits-view : (b : Book) (c n : ℕ) (m : Mode) → Waits b c n m
-    → (joined (view (stage b c)) ≡ true) × (link (view (stage b c)) ≡ suc n) × (reader (view (stage b c)) ≡ reads-mode m)
-waits-view b c n Write e = (ap (λ (g : Stage). joined (view g)) e, ap (λ (g : Stage). link (view g)) e, ap (λ (g : Stage). reader (view g)) e)
-waits-view b c n Read e = (ap (λ (g : Stage). joined (view g)) e, ap (λ (g : Stage). link (view g)) e, ap (λ (g : Stage). reader (view g)) e)
+    → (joined (view (stage b c)) ≡ true) × (link (view (stage b c)) ≡ suc n)
+      × (reader (view (stage b c)) ≡ reads-mode m)
+waits-view b c n Write e = let v = ap view e in (ap joined v, ap link v, ap reader v)
+waits-view b c n Read e = let v = ap view e in (ap joined v, ap link v, ap reader v)
 
+-- it is let in where its spin stands at 0
 waits-granted : (f : ℕ → ℕ) (b : Book) (c n : ℕ) (m : Mode) → Waits b c n m
     → granted f (view (stage b c)) ≡ true → f (spin n) ≡ 0
-waits-granted f b c n Write e g = eqb-true (f (spin n)) 0 (sym (ap (λ (g : Stage). granted f (view g)) e) ∙ g)
-waits-granted f b c n Read e g = eqb-true (f (spin n)) 0 (sym (ap (λ (g : Stage). granted f (view g)) e) ∙ g)
+waits-granted f b c n Write e g = eqb-true (f (spin n)) 0 (sym (ap (granted f) (ap view e)) ∙ g)
+waits-granted f b c n Read e g = eqb-true (f (spin n)) 0 (sym (ap (granted f) (ap view e)) ∙ g)
 
 -- it wakes nobody itself
 waits-hand : (b : Book) (c n : ℕ) (m : Mode) → Waits b c n m
     → (hand (view (stage b c)) ≡ 0) × (target (view (stage b c)) ≡ 0)
-waits-hand b c n Write e = (ap (λ (g : Stage). hand (view g)) e, ap (λ (g : Stage). target (view g)) e)
-waits-hand b c n Read e = (ap (λ (g : Stage). hand (view g)) e, ap (λ (g : Stage). target (view g)) e)
+waits-hand b c n Write e = let v = ap view e in (ap hand v, ap target v)
+waits-hand b c n Read e = let v = ap view e in (ap hand v, ap target v)
 
 -- Whatever is called: by the invariant after each call.
 
 module _ (z : Size) (W : Within z) (keep : (b : Book) (k : Call) → Inv z b → Inv z (after z b k)) where
+  -- the invariant after a list of calls
   inv-fed : (b : Book) → Inv z b → (cs : List Call) → Inv z (fed-from z b cs)
   inv-fed b I [] = I
   inv-fed b I (k ∷ cs) = inv-fed (after z b k) (keep b k I) cs
@@ -356,11 +369,13 @@ module _ (z : Size) (W : Within z) (keep : (b : Book) (k : Call) → Inv z b →
     firm-stays z b c (ReaderEnters m R8) (firm-r8 m) w (call.Reuse a i v) tt
   seen-stays b I d c n m e w (call.Step a) = ⊎-elim
     (λ p. subst (λ (x : ℕ). stage (after z b (call.Step x)) c ≡ ReaderEnters m R8) (sym p)
-      (step-loads z W b I c (spin m) (ReaderEnters m R8) (there z W b I c (λ q. firm-r8 m .busy (sym w ∙ q))) w refl refl
+      (step-loads z W b I c (spin m) (ReaderEnters m R8) (there z W b I c (λ q. firm-r8 m .busy (sym w ∙ q)))
+        w refl refl
         ∙ r8-waits m (standing (b .board .lock .meaning) (spin m)) (seen-waits b I d c n m e w)))
     (λ p. firm-stays z b c (ReaderEnters m R8) (firm-r8 m) w (call.Step a) (p, tt))
     (cases-eq a c)
 
+  -- through a list of calls
   seen-fed : (b : Book) → Inv z b → (d c n m : ℕ) → stage b d ≡ ReaderEnters n (R13 (suc m))
       → stage b c ≡ ReaderEnters m R8 → (cs : List Call) → No-step d cs → stage (fed-from z b cs) c ≡ ReaderEnters m R8
   seen-fed b I d c n m e w [] h = w
@@ -405,7 +420,8 @@ module _ (z : Size) (W : Within z) (keep : (b : Book) (k : Call) → Inv z b →
         lt = there z W b I d (λ e. let o = ap (λ (g : Stage). hand (view g)) e in omega arith)
 
     -- by the active reader right ahead
-    target-soon : (c d m : ℕ) → (d ≡ c → ⊥) → stage b c ≡ ReaderEnters m R8 → target (view (stage b d)) ≡ suc m → Soon c m
+    target-soon : (c d m : ℕ) → (d ≡ c → ⊥) → stage b c ≡ ReaderEnters m R8 → target (view (stage b d)) ≡ suc m
+        → Soon c m
     target-soon c d m n w h = (d, lt, n, ⊎-elim
         (λ q. sees-then-wakes b I d c (q .0) m (q .1) w)
         (λ q. inl (store-next b I d m (ReaderEnters (q .0) (R14 (suc m))) (firm-r14 (q .0) (suc m)) (q .1) refl refl))
@@ -416,7 +432,7 @@ module _ (z : Size) (W : Within z) (keep : (b : Book) (k : Call) → Inv z b →
 
     -- the first in line
     first-woken : (c n : ℕ) (m : Mode) → Waits b c n m → (y : List Place)
-        → b .line ≡ record { card = c; node = n; mode = m } ∷ y
+        → b .line ≡ place c n m ∷ y
         → (standing (b .board .lock .meaning) (spin n) ≡ 0) ⊎ Soon c n
     first-woken c n m w y e = by-baton
         (subst (λ (l : List Place). Baton (standing (b .board .lock .meaning)) (λ d. view (stage b d)) (cards-of l)) e
@@ -431,7 +447,7 @@ module _ (z : Size) (W : Within z) (keep : (b : Book) (k : Call) → Inv z b →
 
     -- a reader behind an active one
     reader-woken : (c n : ℕ) → stage b c ≡ ReaderEnters n R8 → (a : Place)
-        → promise.Right-ahead (b .line) a (record { card = c; node = n; mode = Read }) → promise.Active (cells-of b) a
+        → promise.Right-ahead (b .line) a (place c n Read) → promise.Active (cells-of b) a
         → (standing (b .board .lock .meaning) (spin n) ≡ 0) ⊎ Soon c n
     reader-woken c n w a r o = by-grant (granted F (V c)) refl
       where
@@ -439,22 +455,22 @@ module _ (z : Size) (W : Within z) (keep : (b : Book) (k : Call) → Inv z b →
         F = standing (b .board .lock .meaning)
         V : ℕ → View
         V d = view (stage b d)
-        split : b .line ≡ r .0 ++ a ∷ record { card = c; node = n; mode = Read } ∷ r .1
+        split : b .line ≡ r .0 ++ a ∷ place c n Read ∷ r .1
         split = r .2
         chain : (joined (V (a .card)) ≡ true) × Chain F V (suc (a .card)) (c ∷ cards-of (r .1))
-        chain = chain-from F V (r .0) a (record { card = c; node = n; mode = Read } ∷ r .1) 0
+        chain = chain-from F V (r .0) a (place c n Read ∷ r .1) 0
           (subst (λ (l : List Place). Chain F V 0 (cards-of l)) split (I .kept .line .chain))
         node-of : node (V (a .card)) ≡ a .node
         node-of = node-is (V (a .card)) (a .node) (seat-in (stage b) (r .0) a
-          (record { card = c; node = n; mode = Read } ∷ r .1) (subst (Seated (stage b)) split (I .seated)) .0)
+          (place c n Read ∷ r .1) (subst (Seated (stage b)) split (I .seated)) .0)
         act : active (V (a .card)) ≡ true
         act = active-state F (V (a .card)) (chain .0) (I .kept .line .cells (a .card)) .1
           (ap (λ (x : ℕ). F (state x)) node-of ∙ o)
         by-grant : (t : Bool) → granted F (V c) ≡ t → (F (spin n) ≡ 0) ⊎ Soon c n
         by-grant true g = inl (waits-granted F b c n Read w g)
         by-grant false g = inr (target-soon c (a .card) n
-          (λ p. clash (active (V c)) (ap (λ (x : ℕ). active (V x)) (sym p) ∙ act) (ap (λ (g : Stage). active (view g)) w))
-          w (chain .1 .0 .owed act (ap (λ (g : Stage). reader (view g)) w) g ∙ ap (λ (g : Stage). link (view g)) w))
+          (λ p. clash (active (V c)) (ap (λ (x : ℕ). active (V x)) (sym p) ∙ act) (ap active (ap view w)))
+          w (chain .1 .0 .owed act (ap reader (ap view w)) g ∙ ap link (ap view w)))
 
     -- no lost wake
     pub wakes-stand : Wakes-stand z (cells-of b) b
@@ -463,7 +479,7 @@ module _ (z : Size) (W : Within z) (keep : (b : Book) (k : Call) → Inv z b →
       ; woken = woken }
       where
         woken : (c n : ℕ) (m : Mode) → Waits b c n m
-            → promise.Turn-come (cells-of b) (b .line) (record { card = c; node = n; mode = m })
+            → promise.Turn-come (cells-of b) (b .line) (place c n m)
             → (standing (b .board .lock .meaning) (spin n) ≡ 0) ⊎ Soon c n
         woken c n m w (inl t) = first-woken c n m w (t .0) (t .1)
         woken c n Read w (inr t) = reader-woken c n w (t .1 .0) (t .1 .1) (t .1 .2)

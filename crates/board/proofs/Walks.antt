@@ -80,6 +80,7 @@ line-link-view (ReaderLeaves n (Y8 t)) = refl
 
 -- The cards that point at a link, and the one that leads.
 
+-- one card points at the link
 pub ahead-true : (m : Meaning) (k : ℕ) (cs : List Card) (i : ℕ) → i < length cs
     → points m (getD cs i idle-card .stage) k ≡ true → has-ahead m cs k ≡ true
 ahead-true m k [] i lt p = absurd (omega arith)
@@ -90,6 +91,7 @@ ahead-true m k (r ∷ rs) (suc i) lt p = go (points m (r .stage) k) (ahead-true 
     go true h = refl
     go false h = h
 
+-- no card points at it
 pub ahead-false : (m : Meaning) (k : ℕ) (cs : List Card)
     → ((i : ℕ) → i < length cs → points m (getD cs i idle-card .stage) k ≡ false) → has-ahead m cs k ≡ false
 ahead-false m k [] h = refl
@@ -137,6 +139,7 @@ behind-tail f V a l p h c (inr i) = chain-behind f V l (suc a) (h .1) c i
 -- The line call on a book that keeps the invariant.
 
 module _ (z : Size) (W : Within z) (b : Book) (I : Inv z b) where
+  -- the memory, the records, the standing values, the stages, and the cards as the line sees them
   abbrev M : Meaning
   M = b .board .lock .meaning
 
@@ -152,21 +155,24 @@ module _ (z : Size) (W : Within z) (b : Book) (I : Inv z b) where
   abbrev V : ℕ → View
   V d = view (S d)
 
-  -- a card in line is on the board, and its node too
+  -- a card in line is on the board
   pub joined-there : (c : ℕ) → joined (V c) ≡ true → c < z .cards
   joined-there c j = ⊎-elim (λ lt. lt)
     (λ le. clash (joined (V c)) j (ap (λ (g : Stage). joined (view g)) (I .kept .absent c le))) (cases-lt c (z .cards))
 
+  -- and so is its node
   node-there : (c n : ℕ) → link (V c) ≡ suc n → n < z .nodes
   node-there c n e = let k = sound-link (z .nodes) (z .counters) (S c) (I .kept .sound c) in omega arith
 
+  -- a card on the board has a record
   in-records : (c : ℕ) → c < z .cards → c < length R
   in-records c lt = let w = W .cards in let k = I .kept .cards in omega arith
 
-  -- the link of a card in line, and of another
+  -- the link of a card in line
   link-in : (c : ℕ) → joined (V c) ≡ true → line-link (S c) ≡ suc (node (V c))
   link-in c j = line-link-view (S c) ∙ ap (λ (b : Bool). cond b (link (V c)) 0) j ∙ joined-link (V c) j
 
+  -- a card that is not in line has none
   link-out : (c : ℕ) → joined (V c) ≡ false → line-link (S c) ≡ 0
   link-out c j = line-link-view (S c) ∙ ap (λ (b : Bool). cond b (link (V c)) 0) j
 
@@ -176,19 +182,22 @@ module _ (z : Size) (W : Within z) (b : Book) (I : Inv z b) where
     ap (λ (b : Bool). seen (cond b (Ok (F (next n))) (Err (record { refusal = OutOfRange; card = 0; cell = next n }))))
       (lt-ltb (next n) 137 (omega arith))
 
-  -- whether a card points at a link
+  -- whether a card in line points at a link
   points-in : (a k : ℕ) → joined (V a) ≡ true → points M (S a) k ≡ eqb (F (next (node (V a)))) k
   points-in a k j = ap (λ (x : ℕ). cond (eqb x 0) false (eqb (behind M x) k)) (link-in a j)
-    ∙ ap (λ (x : Bool). cond x false (eqb (behind M (suc (node (V a)))) k)) (ne-eqb (suc (node (V a))) 0 (λ e. omega arith))
+    ∙ ap (λ (x : Bool). cond x false (eqb (behind M (suc (node (V a)))) k))
+        (ne-eqb (suc (node (V a))) 0 (λ e. omega arith))
     ∙ ap (λ (x : ℕ). eqb x k) (behind-is (node (V a)) (node-there a (node (V a)) (joined-link (V a) j)))
 
+  -- a card that is not in line does not
   points-out : (a k : ℕ) → joined (V a) ≡ false → points M (S a) k ≡ false
   points-out a k j = ap (λ (x : ℕ). cond (eqb x 0) false (eqb (behind M x) k)) (link-out a j)
 
-  -- whether a card leads
+  -- a card that is not in line does not lead
   leads-out : (c : ℕ) → joined (V c) ≡ false → leads M R (S c) ≡ false
   leads-out c j = ap (λ (x : ℕ). cond (eqb x 0) false (cond (has-ahead M R x) false true)) (link-out c j)
 
+  -- a card in line leads just if nobody is ahead of it
   leads-by : (c : ℕ) (t : Bool) → joined (V c) ≡ true → has-ahead M R (suc (node (V c))) ≡ t
       → leads M R (S c) ≡ cond t false true
   leads-by c t j h = ap (λ (x : ℕ). cond (eqb x 0) false (cond (has-ahead M R x) false true)) (link-in c j)
@@ -218,7 +227,8 @@ module _ (z : Size) (W : Within z) (b : Book) (I : Inv z b) where
       other a j (inl k) q = let o = joined-link (V a) j in ⊎-elim (λ x. omega arith) (λ x. omega arith) (k .last)
       other a j (inr w) q = let o = joined-link (V a) j in
         ⊎-elim (λ x. omega arith)
-          (λ x. ⊎-elim (λ p. u .0 (subst (λ (y : ℕ). In y l) p (w .1))) (λ p. let k = lc in let y = x ∙ p in omega arith)
+          (λ x. ⊎-elim (λ p. u .0 (subst (λ (y : ℕ). In y l) p (w .1)))
+            (λ p. let k = lc in let y = x ∙ p in omega arith)
             (I .kept .line .nodes (w .0) c (sym x ∙ q ∙ sym lc)))
           (w .2 .from)
       by-view : (a : ℕ) (t : Bool) → joined (V a) ≡ t → points M (S a) (suc (node (V c))) ≡ false
@@ -242,7 +252,7 @@ module _ (z : Size) (W : Within z) (b : Book) (I : Inv z b) where
       by-view true j = by-place j (subst (In a) e (I .kept .line .members a j))
       by-view false j = clash (leads M R (S a)) lead (leads-out a j)
 
-  -- the first link found is that of the first in line, or of nobody
+  -- the first link found is that of the first in line
   found-first : (p : Place) (l : List Place) → b .line ≡ p ∷ l → first-link M R R ≡ suc (p .node)
   found-first p l e =
     let h = subst (λ (x : List Place). Chain F V 0 (cards-of x)) e (I .kept .line .chain) in
@@ -253,6 +263,7 @@ module _ (z : Size) (W : Within z) (b : Book) (I : Inv z b) where
       (in-records (p .card) (joined-there (p .card) (h .0 .in-line))) (first-leads (p .card) (cards-of l) h u q)
     ∙ ap suc (node-is (V (p .card)) (p .node) (s .0))
 
+  -- or of nobody
   found-none : b .line ≡ [] → first-link M R R ≡ 0
   found-none e = first-none M R R (λ a lt. by-view a (joined (V a)) refl)
     where
