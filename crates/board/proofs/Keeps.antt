@@ -464,7 +464,7 @@ module _ (z : Size) (W : Within z) where
       go false e = (h, λ x. omega arith)
 
   -- a step, with its deed in the book
-  step-keeps : (s : LockState) (l : List Place) (q : List Sum) → Safe z s l q → (c : ℕ)
+  pub step-keeps : (s : LockState) (l : List Place) (q : List Sum) → Safe z s l q → (c : ℕ)
       → Good z (stepped z s c) (lined c (step-deed z s c) l) (summed c (step-deed z s c) q)
   step-keeps s l q h c = go (ltb c (z .cards)) refl
     where
@@ -477,158 +477,11 @@ module _ (z : Size) (W : Within z) where
       go true e = step-good z W s l q h c (ltb-true c (z .cards) e) (call-of (z .nodes) c (stage-of s c)) refl
       go false e = (h, λ x. omega arith)
 
-  abort-keeps : (s : LockState) (l : List Place) (q : List Sum) → Safe z s l q → (c : ℕ) → Good z (aborted z s c) l q
+  pub abort-keeps : (s : LockState) (l : List Place) (q : List Sum) → Safe z s l q → (c : ℕ) → Good z (aborted z s c) l q
   abort-keeps s l q h c = of-card-keeps s l q h c (abort-by s c (call-of (z .nodes) c (stage-of s c)))
     (λ lt. abort-good z W s l q h c lt (call-of (z .nodes) c (stage-of s c)) refl)
 
-  reuse-keeps : (s : LockState) (l : List Place) (q : List Sum) → Safe z s l q → (c n : ℕ) (v : NodeValues)
+  pub reuse-keeps : (s : LockState) (l : List Place) (q : List Sum) → Safe z s l q → (c n : ℕ) (v : NodeValues)
       → Good z (reused z s c n v) l q
   reuse-keeps s l q h c n v = of-card-keeps s l q h c (reuse-at z s c n v (stage-of s c))
     (λ lt. reuse-at-good z W s l q h c lt n v (stage-of s c) refl)
-
-  -- what is remembered of each card is no refusal of the memory
-  abbrev pub Calm : List Memo → Type 0
-  Calm ms = (c : ℕ) → Fine (getD ms c no-memo .answer)
-
-  calm-set : (ms : List Memo) (c : ℕ) (r : Memo) → Calm ms → Fine (r .answer) → Calm (set ms c r)
-  calm-set [] c r h k d = h d
-  calm-set (x ∷ ms) zero r h k zero = k
-  calm-set (x ∷ ms) zero r h k (suc d) = h (suc d)
-  calm-set (x ∷ ms) (suc c) r h k zero = h zero
-  calm-set (x ∷ ms) (suc c) r h k (suc d) = calm-set ms c r (λ e. h (suc e)) k d
-
-  -- the answer as the door gives it
-  told-never : (r : Result Answer LockFault) → Fine r → Never-8 (told r)
-  told-never (Ok a) h = tt
-  told-never (Err f) h = h
-
-  -- a call of the board: the lock's state is safe, the memos calm, and the answer no refusal of the memory
-  pub record Fair-reply (p : Reply) (l : List Place) (q : List Sum) : Type 0 where
-    pub safe : Safe z (p .1 .lock) l q
-    pub calm : Calm (p .1 .memos)
-    pub never : Never-8 (p .0)
-
-  passed-fair : (s : DoorState) (p : Turn) (l : List Place) (q : List Sum) → Good z p l q → Calm (s .memos)
-      → Fair-reply (passed s p) l q
-  passed-fair s p l q g k = record { safe = g .0; calm = k; never = told-never (p .0) (g .1) }
-
-  resent-never : (o : Option Request) (w : Request) (a : Result Answer LockFault) → Fine a → Never-8 (resent o w a)
-  resent-never None w a h = λ e. omega arith
-  resent-never (Some v) w a h = go (same v w)
-    where
-      go : (b : Bool) → Never-8 (cond b (told a) (Err Differs))
-      go true = told-never a h
-      go false = λ e. omega arith
-
-  -- a request that was understood, or refused for its form
-  abbrev Well : Result Request DoorFault → Type 0
-  Well (Ok w) = Unit {0}
-  Well (Err e) = door.number e ≡ 8 → ⊥
-
-  well-cond : (b : Bool) (x y : Result Request DoorFault) → Well x → Well y → Well (cond b x y)
-  well-cond true x y h k = h
-  well-cond false x y h k = k
-
-  understood-well : (t k a b : ℕ) → Well (understood t k a b)
-  understood-well t k a b =
-    let no : door.number Malformed ≡ 8 → ⊥ = λ e. omega arith in
-    well-cond (ltb t 2) (worded k a b) (Err Malformed)
-      (well-cond (eqb k 1) _ _ (well-cond (eqb b 0) _ _ tt no)
-        (well-cond (eqb k 2) _ _ (well-cond (eqb b 0) _ _ tt no)
-          (well-cond (eqb k 3) _ _ (well-cond (eqb a 0) _ _ (well-cond (eqb b 0) _ _ tt no) no)
-            (well-cond (eqb k 4) _ _ tt (well-cond (eqb k 5) _ _ (well-cond (eqb b 0) _ _ tt no) no)))))
-      no
-
-  judged-fair : (s : DoorState) (l : List Place) (q : List Sum) → Safe z (s .lock) l q → Calm (s .memos) → (c : ℕ)
-      → c < z .cards → (t : ℕ) (r : Result Request DoorFault) → Well r → Fair-reply (judged z s c t r) l q
-  judged-fair s l q h k c lt t (Err e) n = record { safe = h; calm = k; never = n }
-  judged-fair s l q h k c lt t (Ok w) n = go (eqb (memo-of s c .toggle) t)
-    where
-      go : (b : Bool) → Fair-reply
-        (cond b (resent (memo-of s c .request) w (memo-of s c .answer), s) (noted s c t w (served z (s .lock) c w))) l q
-      go true = record { safe = h; calm = k; never = resent-never (memo-of s c .request) w (memo-of s c .answer) (k c) }
-      go false = let g = served-good z W (s .lock) l q h c lt w in record
-        { safe = g .0
-        ; calm = calm-set (s .memos) c (record { toggle = t; request = Some w; answer = served z (s .lock) c w .0 }) k (g .1)
-        ; never = told-never (served z (s .lock) c w .0) (g .1) }
-
-  asked-fair : (s : DoorState) (l : List Place) (q : List Sum) → Safe z (s .lock) l q → Calm (s .memos)
-      → (c t k a b : ℕ) → Fair-reply (asked z s c t k a b) l q
-  asked-fair s l q h y c t k a b = go (ltb c (z .cards)) refl
-    where
-      go : (x : Bool) → ltb c (z .cards) ≡ x
-        → Fair-reply (cond x (judged z s c t (understood t k a b)) (Err (Lock NoCard), s)) l q
-      go true e = judged-fair s l q h y c (ltb-true c (z .cards) e) t (understood t k a b) (understood-well t k a b)
-      go false e = record { safe = h; calm = y; never = λ x. omega arith }
-
-  -- the book's invariant with the memos
-  pub record Whole (b : Book) : Type 0 where
-    pub inv : Inv z b
-    pub calm : Calm (b .board .memos)
-
-  -- the invariant of a book, and of its parts
-  safe-of : (b : Book) → Inv z b → Safe z (b .board .lock) (b .line) (b .finished)
-  safe-of b I = record { kept = I .kept; seated = I .seated; counted = I .counted }
-
-  whole-of : (b : Book) (p : Reply) → b .board ≡ p .1 → Fair-reply p (b .line) (b .finished) → Whole b
-  whole-of b p e f = record
-    { inv = let h = subst (λ (s : DoorState). Safe z (s .lock) (b .line) (b .finished)) (sym e) (f .safe) in
-        record { kept = h .kept; seated = h .seated; counted = h .counted }
-    ; calm = subst (λ (s : DoorState). Calm (s .memos)) (sym e) (f .calm) }
-
-  -- every call
-  call-fair : (b : Book) → Whole b → (k : Call)
-      → Fair-reply (called z (b .board) k) (after z b k .line) (after z b k .finished)
-  unfolding called
-  call-fair b I (call.Request c t k x y) =
-    asked-fair (b .board) (b .line) (b .finished) (safe-of b (I .inv)) (I .calm) c t k x y
-  call-fair b I (call.Step c) = let d = step-deed z (b .board .lock) c in
-    passed-fair (b .board) (stepped z (b .board .lock) c) (lined c d (b .line)) (summed c d (b .finished))
-      (step-keeps (b .board .lock) (b .line) (b .finished) (safe-of b (I .inv)) c) (I .calm)
-  call-fair b I (call.Abort c) = passed-fair (b .board) (aborted z (b .board .lock) c) (b .line) (b .finished)
-    (abort-keeps (b .board .lock) (b .line) (b .finished) (safe-of b (I .inv)) c) (I .calm)
-  call-fair b I (call.Reuse c n v) = passed-fair (b .board) (reused z (b .board .lock) c n v) (b .line) (b .finished)
-    (reuse-keeps (b .board .lock) (b .line) (b .finished) (safe-of b (I .inv)) c n v) (I .calm)
-
-  -- the book's board after a call
-  pub board-after : (b : Book) (k : Call) → after z b k .board ≡ called z (b .board) k .1
-  board-after b (call.Request c t k x y) = refl
-  board-after b (call.Step c) = refl
-  board-after b (call.Abort c) = refl
-  board-after b (call.Reuse c n v) = refl
-
-  -- every call keeps the invariant
-  pub whole-after : (b : Book) → Whole b → (k : Call) → Whole (after z b k)
-  whole-after b I k = whole-of (after z b k) (called z (b .board) k) (board-after b k) (call-fair b I k)
-
-  -- and is never refused by the memory
-  pub never-after : (b : Book) → Whole b → (k : Call) → Never-8 (called z (b .board) k .0)
-  never-after b I k = call-fair b I k .never
-
-  -- a board newly set up
-  pub whole-new : Whole new-book
-  unfolding new-door
-  whole-new = record
-    { inv = record
-        { kept = record
-            { cells = refl; txs = refl; cards = refl
-            ; isolated = record
-                { agrees = λ c. subst (λ (x : Tx). Agrees (standing cleared) (stage-of new-lock c) x)
-                    (sym (all-same 8 c none)) (ap in-tx (idle-all c))
-                ; apart = λ c d a _ w. clash (has-written a (tx-of cleared c)) w
-                    (ap (has-written a) (all-same 8 c none)) }
-            ; line = new-line (standing cleared) (stage-of new-lock) refl idle-all
-            ; absent = λ c _. idle-all c
-            ; sound = λ c. subst (Sound (z .nodes) (z .counters)) (sym (idle-all c)) tt }
-        ; seated = tt
-        ; counted = record
-            { counts = λ k _. all-same 137 (counter-cell (z .nodes) k) 0
-            ; loaded = λ c n k a v e. clash (finishing (stage-of new-lock c)) (ap finishing e) (ap finishing (idle-all c)) } }
-    ; calm = calm-new 8 }
-    where
-      idle-all : (c : ℕ) → stage-of new-lock c ≡ Idle
-      idle-all c = ap (λ (r : Card). r .stage) (all-same 8 c idle-card)
-      calm-new : (n c : ℕ) → Fine (getD (replicate n new-memo) c no-memo .answer)
-      calm-new zero c = tt
-      calm-new (suc n) zero = tt
-      calm-new (suc n) (suc c) = calm-new n c

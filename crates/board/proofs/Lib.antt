@@ -19,7 +19,6 @@ pub mod Steps
 pub mod Effects
 pub mod Frames
 pub mod Seats
-pub mod Counts
 pub mod Lists
 pub mod Turns
 pub mod Stores
@@ -28,7 +27,8 @@ pub mod Wakes
 pub mod Laws
 pub mod Walks
 pub mod Keeps
-pub mod Stores
-pub mod Counts
 pub mod Untouched
 pub mod Promised
+pub mod Book
+pub mod History
+pub mod Sizes
