@@ -52,7 +52,7 @@ without-in n c (d ∷ l) i = go (eqb d n) (without-in n c l) i
     go false h (inr i) = inr (h i)
 
 -- and none twice
-without-once : (n : ℕ) (l : List ℕ) → Once l → Once (without n l)
+pub without-once : (n : ℕ) (l : List ℕ) → Once l → Once (without n l)
 without-once n [] u = tt
 without-once n (d ∷ l) u = go (eqb d n) (without-once n l (u .1))
   where
@@ -61,7 +61,7 @@ without-once n (d ∷ l) u = go (eqb d n) (without-once n l (u .1))
     go false h = (λ i. u .0 (without-in n d l i), h)
 
 -- the number taken out is not there any more
-without-gone : (n : ℕ) (l : List ℕ) → Once l → In n (without n l) → ⊥
+pub without-gone : (n : ℕ) (l : List ℕ) → Once l → In n (without n l) → ⊥
 without-gone n [] u i = i
 without-gone n (d ∷ l) u i = go (eqb d n) refl (without-gone n l (u .1)) i
   where

@@ -28,18 +28,18 @@ use Rattle.board.proofs.Join.{active-state}
 -- Of one view.
 
 -- the node that a link names
-pub node-is : (v : View) (m : ℕ) → link v ≡ suc m → node v ≡ m
-node-is away m e = absurd (omega arith)
-node-is (comesW n) m e = omega arith
-node-is (comesR n) m e = omega arith
-node-is (waitsW n) m e = omega arith
-node-is (waitsR n) m e = omega arith
-node-is (holdsW n) m e = omega arith
-node-is (turnR n) m e = omega arith
-node-is (activeR n) m e = omega arith
-node-is (seesR n q) m e = omega arith
-node-is (wakesR n q) m e = omega arith
-node-is (hands n q) m e = omega arith
+pub link-node : (v : View) (m : ℕ) → link v ≡ suc m → node v ≡ m
+link-node away m e = absurd (omega arith)
+link-node (comesW n) m e = omega arith
+link-node (comesR n) m e = omega arith
+link-node (waitsW n) m e = omega arith
+link-node (waitsR n) m e = omega arith
+link-node (holdsW n) m e = omega arith
+link-node (turnR n) m e = omega arith
+link-node (activeR n) m e = omega arith
+link-node (seesR n q) m e = omega arith
+link-node (wakesR n q) m e = omega arith
+link-node (hands n q) m e = omega arith
 
 -- an active reader is a reader, and it is let in
 pub active-is : (f : ℕ → ℕ) (v : View) → active v ≡ true → (reader v ≡ true) × (granted f v ≡ true)
@@ -190,7 +190,7 @@ module _ (z : Size) (b : Book) (I : Inv z b) where
 
   -- a cell of a card's node, by the place's node
   cell-at : (c n m : ℕ) (g : ℕ → ℕ) → link (V c) ≡ suc n → F (g (node (V c))) ≡ m → F (g n) ≡ m
-  cell-at c n m g e h = ap (λ (x : ℕ). F (g x)) (sym (node-is (V c) n e)) ∙ h
+  cell-at c n m g e h = ap (λ (x : ℕ). F (g x)) (sym (link-node (V c) n e)) ∙ h
 
   -- the line stands in the cells
   pub line-stands : Line-stands (cells-of b) (b .line)
@@ -278,7 +278,7 @@ module _ (z : Size) (b : Book) (I : Inv z b) where
         let s = seat (w .0) a (w .1) (w .2) in
         let j = chain-from F V (w .0) a (w .1) 0 (chain-is (w .0 ++ a ∷ w .1) (w .2)) .0 in
         let o = active-state F (V (a .card)) j (I .kept .line .cells (a .card)) .1
-          (ap (λ (x : ℕ). F (state x)) (node-is (V (a .card)) (a .node) (s .0)) ∙ h) in
+          (ap (λ (x : ℕ). F (state x)) (link-node (V (a .card)) (a .node) (s .0)) ∙ h) in
         same-mode (a .mode) Read (sym (s .1) ∙ active-is F (V (a .card)) o .0) }
     where
       alone : (c d n k : ℕ) → V c ≡ holdsW n → promise.Writes-inside b d k ⊎ promise.Reads-inside b d k → d ≡ c

@@ -50,7 +50,7 @@ use Rattle.board.proofs.Join.{active-state}
 use Rattle.board.proofs.Moves.{aimed}
 use Rattle.board.proofs.Turns.{moved-same, moved-other, same-stage, Taken, Served, served-moves, request-cases}
 use Rattle.board.proofs.Turns.{step-cases, step-is, abort-cases, reuse-cards}
-use Rattle.board.proofs.Stands.{place, node-is, chain-from, seat-in, in-place}
+use Rattle.board.proofs.Stands.{place, link-node, chain-from, seat-in, in-place}
 
 -- Tables: who is about to wake the node m.
 
@@ -461,7 +461,7 @@ module _ (z : Size) (W : Within z) (keep : (b : Book) (k : Call) → Inv z b →
         chain = chain-from F V (r .0) a (place c n Read ∷ r .1) 0
           (subst (λ (l : List Place). Chain F V 0 (cards-of l)) split (I .kept .line .chain))
         node-of : node (V (a .card)) ≡ a .node
-        node-of = node-is (V (a .card)) (a .node) (seat-in (stage b) (r .0) a
+        node-of = link-node (V (a .card)) (a .node) (seat-in (stage b) (r .0) a
           (place c n Read ∷ r .1) (subst (Seated (stage b)) split (I .seated)) .0)
         act : active (V (a .card)) ≡ true
         act = active-state F (V (a .card)) (chain .0) (I .kept .line .cells (a .card)) .1

@@ -33,7 +33,7 @@ use Rattle.board.proofs.Inv.{cards-of, Seated, Inv}
 use Rattle.board.proofs.Lists.{once-few}
 use Rattle.board.proofs.Links.{sound-link}
 use Rattle.board.proofs.Moves.{joined-link}
-use Rattle.board.proofs.Stands.{node-is}
+use Rattle.board.proofs.Stands.{link-node}
 
 -- Tables of the stages.
 
@@ -261,7 +261,7 @@ module _ (z : Size) (W : Within z) (b : Book) (I : Inv z b) where
     let q = ap cards-of e in
     first-is M R (suc (node (V (p .card)))) R (λ a lt lead. only-leads (p .card) (cards-of l) h q a lead) (p .card)
       (in-records (p .card) (joined-there (p .card) (h .0 .in-line))) (first-leads (p .card) (cards-of l) h u q)
-    ∙ ap suc (node-is (V (p .card)) (p .node) (s .0))
+    ∙ ap suc (link-node (V (p .card)) (p .node) (s .0))
 
   -- or of nobody
   found-none : b .line ≡ [] → first-link M R R ≡ 0
@@ -282,7 +282,7 @@ module _ (z : Size) (W : Within z) (b : Book) (I : Inv z b) where
     where
       nobody : F (next (p .node)) ≡ 0
       nobody = let a = s .0 in
-        ap (λ (x : ℕ). F (next x)) (sym (node-is (V (p .card)) (p .node) (s .0)))
+        ap (λ (x : ℕ). F (next x)) (sym (link-node (V (p .card)) (p .node) (s .0)))
         ∙ ⊎-elim (λ e. absurd (omega arith)) (λ e. e) (h .1 .last)
   walk-line p (q ∷ l) k (suc f) h s le =
     ap (λ (x : ℕ). p .node ∷ walk M f x) (behind-is (p .node) (node-there (p .card) (p .node) (s .0)) ∙ somebody)
@@ -290,7 +290,7 @@ module _ (z : Size) (W : Within z) (b : Book) (I : Inv z b) where
     where
       somebody : F (next (p .node)) ≡ suc (q .node)
       somebody = let a = s .0 in
-        ap (λ (x : ℕ). F (next x)) (sym (node-is (V (p .card)) (p .node) (s .0)))
+        ap (λ (x : ℕ). F (next x)) (sym (link-node (V (p .card)) (p .node) (s .0)))
         ∙ ⊎-elim (λ e. absurd (omega arith)) (λ e. e ∙ s .2 .0) (h .1 .0 .from)
 
   -- there are never more than eight in line
