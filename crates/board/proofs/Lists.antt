@@ -26,8 +26,8 @@ pub parts-add : {X : Type 0} (part : List X → List X) → ((l k : List X) → 
     → (all some more done u v : List X) → part all ≡ part some ++ u → u ++ part more ≡ part done ++ v
     → part (all ++ more) ≡ part (some ++ done) ++ v
 parts-add part app all some more done u v h k =
-  app all more ∙ ap (λ x. x ++ part more) h ∙ append-assoc (part some) u (part more) ∙ ap (λ x. part some ++ x) k
-  ∙ sym (append-assoc (part some) (part done) v) ∙ ap (λ x. x ++ v) (sym (app some done))
+    app all more ∙ ap (λ x. x ++ part more) h ∙ append-assoc (part some) u (part more) ∙ ap (λ x. part some ++ x) k
+    ∙ sym (append-assoc (part some) (part done) v) ∙ ap (λ x. x ++ v) (sym (app some done))
 
 -- Lists of numbers that do not repeat.
 
@@ -75,8 +75,8 @@ pub once-few : (n : ℕ) (l : List ℕ) → Once l → ((c : ℕ) → In c l →
 once-few zero [] u h = omega arith
 once-few zero (c ∷ l) u h = let k = h c (inl refl) in absurd (omega arith)
 once-few (suc n) l u h =
-  let few = once-few n (without n l) (without-once n l u) (λ c i. below c i (h c (without-in n c l i))) in
-  let long = without-length n l in omega arith
+    let few = once-few n (without n l) (without-once n l u) (λ c i. below c i (h c (without-in n c l i))) in
+    let long = without-length n l in omega arith
   where
     below : (c : ℕ) → In c (without n l) → c < suc n → c < n
     below c i k = go (λ (e : c ≡ n). without-gone n l u (subst (λ (x : ℕ). In x (without n l)) e i))
