@@ -13,6 +13,7 @@ use Rattle.board.proofs.Views.{holdsW, turnR, activeR, seesR, wakesR, hands}
 use Rattle.board.proofs.Views.{node, link, joined, reader, active, target, hand, granted, Cells}
 use Rattle.board.proofs.Chain.{without, Spot, End, who, Chain, In, Once, Ok, granted-frame, chain-behind, chain-place}
 use Rattle.board.proofs.Chain.{chain-pred, chain-leave, Led, Due, Baton, Line, Front, seat-place, front-end}
+use Rattle.board.proofs.Lists.{without-once}
 use Rattle.board.proofs.Moves.{joined-link, node-is, holder, cells-frame}
 use Rattle.board.proofs.Moves.{seat-frame, front-frame, front-none, nodes-at}
 
@@ -26,34 +27,6 @@ in-without c d (a ∷ l) n i = go (cases-eq a c) (in-without c d l n) i
     go (inl e) r (inr j) = rw (eq-eqb a c e) j
     go (inr k) r (inl h) = rw (ne-eqb a c k) (inl h)
     go (inr k) r (inr j) = rw (ne-eqb a c k) (inr (r j))
-
-without-in : (c d : ℕ) (l : List ℕ) → In d (without c l) → In d l
-without-in c d [] i = i
-without-in c d (a ∷ l) i = go (eqb a c) (without-in c d l) i
-  where
-    go : (b : Bool) → (In d (without c l) → In d l) → In d (cond b l (a ∷ without c l)) → (d ≡ a) ⊎ In d l
-    go true r j = inr j
-    go false r (inl e) = inl e
-    go false r (inr j) = inr (r j)
-
-once-without : (c : ℕ) (l : List ℕ) → Once l → Once (without c l)
-once-without c [] u = u
-once-without c (a ∷ l) u = go (eqb a c) (once-without c l (u .1))
-  where
-    go : (b : Bool) → Once (without c l) → Once (cond b l (a ∷ without c l))
-    go true r = u .1
-    go false r = (λ i. u .0 (without-in c a l i), r)
-
--- a card that is taken out of a list is not in it
-pub without-gone : (c : ℕ) (l : List ℕ) → Once l → In c (without c l) → ⊥
-without-gone c [] u i = i
-without-gone c (a ∷ l) u i = go (cases-eq a c) (without-gone c l (u .1))
-  where
-    at-head : (b : Bool) → eqb a c ≡ b → In c (cond b l (a ∷ without c l))
-    at-head b e = subst (λ (b : Bool). In c (cond b l (a ∷ without c l))) e i
-    go : (a ≡ c) ⊎ (a ≡ c → ⊥) → (In c (without c l) → ⊥) → ⊥
-    go (inl e) r = u .0 (subst (λ (x : ℕ). In x l) (sym e) (at-head true (eq-eqb a c e)))
-    go (inr n) r = ⊎-elim (λ e. n (sym e)) r (at-head false (ne-eqb a c n))
 
 -- an active reader is a reader, and has a node
 active-reader : (v : View) → active v ≡ true → (reader v ≡ true) × (link v ≡ suc (node v))
@@ -282,7 +255,7 @@ module _ (f g : ℕ → ℕ) (V : ℕ → View) (l : List ℕ) (I : Line f V l) 
     ; cells = at-all (λ (d : ℕ) (v : View). Cells g v) V c u (Q .stands) leave-cells
     ; members = at-all (λ (d : ℕ) (v : View). joined v ≡ true → In d (without c l)) V c u
         (λ j. clash (joined u) j (Q .outside)) (λ d nd j. in-without c d l nd (I .members d j))
-    ; once = once-without c l (I .once)
+    ; once = without-once c l (I .once)
     ; chain = chain-leave f g V (at V c u) c each end skip skip-end l 0 (omega arith)
         (I .once) (I .members c (Q .in-line)) tt (I .chain)
     ; baton = leave-baton l (I .chain) (I .once) (I .members c (Q .in-line)) (I .baton) }

@@ -1,6 +1,7 @@
 pub mod Cells
 pub mod Views
 pub mod Chain
+pub mod Lists
 pub mod Held
 pub mod Sound
 pub mod Model
@@ -20,6 +21,7 @@ pub mod Effects
 pub mod Frames
 pub mod Seats
 pub mod Lists
+pub mod Counts
 pub mod Turns
 pub mod Stores
 pub mod Stands

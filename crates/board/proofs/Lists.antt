@@ -26,8 +26,8 @@ pub parts-add : {X : Type 0} (part : List X → List X) → ((l k : List X) → 
     → (all some more done u v : List X) → part all ≡ part some ++ u → u ++ part more ≡ part done ++ v
     → part (all ++ more) ≡ part (some ++ done) ++ v
 parts-add part app all some more done u v h k =
-  app all more ∙ ap (λ x. x ++ part more) h ∙ append-assoc (part some) u (part more) ∙ ap (λ x. part some ++ x) k
-  ∙ sym (append-assoc (part some) (part done) v) ∙ ap (λ x. x ++ v) (sym (app some done))
+    app all more ∙ ap (λ x. x ++ part more) h ∙ append-assoc (part some) u (part more) ∙ ap (λ x. part some ++ x) k
+    ∙ sym (append-assoc (part some) (part done) v) ∙ ap (λ x. x ++ v) (sym (app some done))
 
 -- Lists of numbers that do not repeat.
 
@@ -52,7 +52,7 @@ without-in n c (d ∷ l) i = go (eqb d n) (without-in n c l) i
     go false h (inr i) = inr (h i)
 
 -- and none twice
-without-once : (n : ℕ) (l : List ℕ) → Once l → Once (without n l)
+pub without-once : (n : ℕ) (l : List ℕ) → Once l → Once (without n l)
 without-once n [] u = tt
 without-once n (d ∷ l) u = go (eqb d n) (without-once n l (u .1))
   where
@@ -61,7 +61,7 @@ without-once n (d ∷ l) u = go (eqb d n) (without-once n l (u .1))
     go false h = (λ i. u .0 (without-in n d l i), h)
 
 -- the number taken out is not there any more
-without-gone : (n : ℕ) (l : List ℕ) → Once l → In n (without n l) → ⊥
+pub without-gone : (n : ℕ) (l : List ℕ) → Once l → In n (without n l) → ⊥
 without-gone n [] u i = i
 without-gone n (d ∷ l) u i = go (eqb d n) refl (without-gone n l (u .1)) i
   where
@@ -75,8 +75,8 @@ pub once-few : (n : ℕ) (l : List ℕ) → Once l → ((c : ℕ) → In c l →
 once-few zero [] u h = omega arith
 once-few zero (c ∷ l) u h = let k = h c (inl refl) in absurd (omega arith)
 once-few (suc n) l u h =
-  let few = once-few n (without n l) (without-once n l u) (λ c i. below c i (h c (without-in n c l i))) in
-  let long = without-length n l in omega arith
+    let few = once-few n (without n l) (without-once n l u) (λ c i. below c i (h c (without-in n c l i))) in
+    let long = without-length n l in omega arith
   where
     below : (c : ℕ) → In c (without n l) → c < suc n → c < n
     below c i k = go (λ (e : c ≡ n). without-gone n l u (subst (λ (x : ℕ). In x (without n l)) e i))

@@ -18,7 +18,7 @@ use Rattle.board.proofs.Cells.{at, at-same, at-other, at-all, clash}
 use Rattle.board.proofs.Views.{view, link, joined, reader}
 use Rattle.board.proofs.Chain.{Line, In, chain-joined}
 use Rattle.board.proofs.Chain as chain
-use Rattle.board.proofs.Leave.{without-gone}
+use Rattle.board.proofs.Lists.{without-gone}
 use Rattle.board.proofs.Model.{lined-cards}
 use Rattle.board.proofs.Inv.{cards-of, reads-mode, Seated}
 use Rattle.board.proofs.Links.{views, view-begin, Same-seat, Seat-after, seat-goes}

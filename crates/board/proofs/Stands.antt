@@ -28,18 +28,18 @@ use Rattle.board.proofs.Join.{active-state}
 -- Of one view.
 
 -- the node that a link names
-pub node-is : (v : View) (m : ℕ) → link v ≡ suc m → node v ≡ m
-node-is away m e = absurd (omega arith)
-node-is (comesW n) m e = omega arith
-node-is (comesR n) m e = omega arith
-node-is (waitsW n) m e = omega arith
-node-is (waitsR n) m e = omega arith
-node-is (holdsW n) m e = omega arith
-node-is (turnR n) m e = omega arith
-node-is (activeR n) m e = omega arith
-node-is (seesR n q) m e = omega arith
-node-is (wakesR n q) m e = omega arith
-node-is (hands n q) m e = omega arith
+pub link-node : (v : View) (m : ℕ) → link v ≡ suc m → node v ≡ m
+link-node away m e = absurd (omega arith)
+link-node (comesW n) m e = omega arith
+link-node (comesR n) m e = omega arith
+link-node (waitsW n) m e = omega arith
+link-node (waitsR n) m e = omega arith
+link-node (holdsW n) m e = omega arith
+link-node (turnR n) m e = omega arith
+link-node (activeR n) m e = omega arith
+link-node (seesR n q) m e = omega arith
+link-node (wakesR n q) m e = omega arith
+link-node (hands n q) m e = omega arith
 
 -- an active reader is a reader, and it is let in
 pub active-is : (f : ℕ → ℕ) (v : View) → active v ≡ true → (reader v ≡ true) × (granted f v ≡ true)
@@ -76,10 +76,10 @@ chain-from f V (a ∷ x) p y k h = chain-from f V x p y (suc (a .card)) (h .1)
 pub first-or-behind : (f : ℕ → ℕ) (V : ℕ → View) (x : List Place) (p : Place) (y : List Place)
     → Chain f V 0 (cards-of (x ++ p ∷ y))
     → ((x ≡ []) × Spot f away (V (p .card)))
-      ⊎ ((a : ℕ) × (joined (V a) ≡ true) × Spot f (V a) (V (p .card)))
+    ⊎ ((a : ℕ) × (joined (V a) ≡ true) × Spot f (V a) (V (p .card)))
 first-or-behind f V [] p y h = inl (refl, h .0)
 first-or-behind f V (a ∷ x) p y h =
-  inr (chain-pred f V (cards-of (x ++ p ∷ y)) (a .card) (h .0 .in-line) (h .1) (p .card) (in-mid x p y))
+    inr (chain-pred f V (cards-of (x ++ p ∷ y)) (a .card) (h .0 .in-line) (h .1) (p .card) (in-mid x p y))
 
 -- the node and the mode of a place are those of its card
 pub seat-in : (S : ℕ → Stage) (x : List Place) (p : Place) (y : List Place) → Seated S (x ++ p ∷ y)
@@ -98,13 +98,13 @@ pub ahead-active : (f : ℕ → ℕ) (V : ℕ → View) (l : List ℕ) (a : ℕ)
     → (d : ℕ) → In d l → reader (V d) ≡ true → granted f (V d) ≡ true → active (V a) ≡ true
 ahead-active f V [] a o h d i r g = absurd i
 ahead-active f V (e ∷ l) a o h d (inl q) r g =
-  let j = joined-link (V a) o in
-  ⊎-elim (λ z. absurd (omega arith)) (λ z. z)
+    let j = joined-link (V a) o in
+    ⊎-elim (λ z. absurd (omega arith)) (λ z. z)
     (h .0 .turnr (ap (λ (x : ℕ). reader (V x)) (sym q) ∙ r) (ap (λ (x : ℕ). granted f (V x)) (sym q) ∙ g))
 ahead-active f V (e ∷ l) a o h d (inr i) r g =
-  let A = active-is f (V e) (ahead-active f V l e (h .0 .in-line) (h .1) d i r g) in
-  let j = joined-link (V a) o in
-  ⊎-elim (λ z. absurd (omega arith)) (λ z. z) (h .0 .turnr (A .0) (A .1))
+    let A = active-is f (V e) (ahead-active f V l e (h .0 .in-line) (h .1) d i r g) in
+    let j = joined-link (V a) o in
+    ⊎-elim (λ z. absurd (omega arith)) (λ z. z) (h .0 .turnr (A .0) (A .1))
 
 -- a mode is known by whether it reads
 same-mode : (m n : Mode) → reads-mode m ≡ reads-mode n → m ≡ n
@@ -122,14 +122,16 @@ place-of S (p ∷ l) c n m s (inl e) k r = ([], l, ap (λ (q : Place). q ∷ l) 
   where
     same-node : p .node ≡ n
     same-node =
-      let a = s .0 in
-      let b : link (view (S (p .card))) ≡ suc n = ap (λ (x : ℕ). link (view (S x))) (sym e) ∙ k in omega arith
+        let a = s .0 in
+        let b : link (view (S (p .card))) ≡ suc n = ap (λ (x : ℕ). link (view (S x))) (sym e) ∙ k in omega arith
+
     mode-is : p .mode ≡ m
     mode-is = same-mode (p .mode) m (sym (s .1) ∙ ap (λ (x : ℕ). reader (view (S x))) (sym e) ∙ r)
+
     here : p ≡ place c n m
     here = λ i. record { card = sym e i; node = same-node i; mode = mode-is i }
 place-of S (p ∷ l) c n m s (inr i) k r =
-  let w = place-of S l c n m (s .2) i k r in (p ∷ w .0, w .1, ap (λ (q : List Place). p ∷ q) (w .2))
+    let w = place-of S l c n m (s .2) i k r in (p ∷ w .0, w .1, ap (λ (q : List Place). p ∷ q) (w .2))
 
 -- The promise of a book that keeps the invariant.
 
@@ -190,35 +192,36 @@ module _ (z : Size) (b : Book) (I : Inv z b) where
 
   -- a cell of a card's node, by the place's node
   cell-at : (c n m : ℕ) (g : ℕ → ℕ) → link (V c) ≡ suc n → F (g (node (V c))) ≡ m → F (g n) ≡ m
-  cell-at c n m g e h = ap (λ (x : ℕ). F (g x)) (sym (node-is (V c) n e)) ∙ h
+  cell-at c n m g e h = ap (λ (x : ℕ). F (g x)) (sym (link-node (V c) n e)) ∙ h
 
   -- the line stands in the cells
   pub line-stands : Line-stands (cells-of b) (b .line)
-  line-stands = record
-    { linked = λ p q w.
+  line-stands = record {
+    linked = λ p q w.
         let s = seat-front p q w in let t = seat-back p q w in
         ⊎-elim (λ z. absurd (omega arith)) (λ e. cell-at (p .card) (p .node) (suc (q .node)) next (s .0) (e ∙ t .0))
-          (spot p q w .from)
-    ; ended = λ p w.
+        (spot p q w .from);
+    ended = λ p w.
         let s = seat (w .0) p [] (w .1) in
-        ⊎-elim (λ z. absurd (omega arith)) (λ e. cell-at (p .card) (p .node) 0 next (s .0) e) (end-of p w .last)
-    ; tailed = λ p w. end-of p w .tail ∙ seat (w .0) p [] (w .1) .0
-    ; emptied = λ e. chain-is [] e .tail
-    ; backed = λ p q w r.
+        ⊎-elim (λ z. absurd (omega arith)) (λ e. cell-at (p .card) (p .node) 0 next (s .0) e) (end-of p w .last);
+    tailed = λ p w. end-of p w .tail ∙ seat (w .0) p [] (w .1) .0;
+    emptied = λ e. chain-is [] e .tail;
+    backed = λ p q w r.
         let s = seat-front p q w in let t = seat-back p q w in
-        cell-at (q .card) (q .node) (suc (p .node)) prev (t .0) (spot p q w .ahead (t .1 ∙ ap reads-mode r) ∙ s .0)
-    ; headed = λ p w r.
+        cell-at (q .card) (q .node) (suc (p .node)) prev (t .0) (spot p q w .ahead (t .1 ∙ ap reads-mode r) ∙ s .0);
+    headed = λ p w r.
         let s = seat [] p (w .0) (w .1) in
-        cell-at (p .card) (p .node) 0 prev (s .0) (chain-is (p ∷ w .0) (w .1) .0 .ahead (s .1 ∙ ap reads-mode r))
-    ; once = λ p q w e. once p q w e
-    ; apart = λ p q w e.
+        cell-at (p .card) (p .node) 0 prev (s .0) (chain-is (p ∷ w .0) (w .1) .0 .ahead (s .1 ∙ ap reads-mode r));
+    once = λ p q w e. once p q w e;
+    apart = λ p q w e.
         let s = seat (w .0) p (w .1 ++ q ∷ w .2) (ahead-is p q w) in let t = seat (w .0 ++ p ∷ w .1) q (w .2) (w .3) in
         ⊎-elim (λ h. once p q w h) (λ h. absurd (omega arith))
-          (I .kept .line .nodes (p .card) (q .card) (s .0 ∙ ap suc e ∙ sym (t .0))) }
+        (I .kept .line .nodes (p .card) (q .card) (s .0 ∙ ap suc e ∙ sym (t .0)));
+  }
     where
       once : (p q : Place) → promise.Ahead (b .line) p q → p .card ≡ q .card → ⊥
       once p q w e = once-in (w .0) p (w .1 ++ q ∷ w .2) (once-is (w .0 ++ p ∷ (w .1 ++ q ∷ w .2)) (ahead-is p q w))
-        (subst (λ (x : ℕ). In x (cards-of (w .1 ++ q ∷ w .2))) (sym e) (in-mid (w .1) q (w .2)))
+          (subst (λ (x : ℕ). In x (cards-of (w .1 ++ q ∷ w .2))) (sym e) (in-mid (w .1) q (w .2)))
 
   -- the place of a card that is in line
   pub in-place : (c n : ℕ) (m : Mode) → joined (V c) ≡ true → link (V c) ≡ suc n → reader (V c) ≡ reads-mode m
@@ -237,22 +240,22 @@ module _ (z : Size) (b : Book) (I : Inv z b) where
       go : promise.In (b .line) (place c n Write)
           → promise.First (b .line) (place c n Write)
       go w = ⊎-elim
-        (λ h. (w .1, w .2 ∙ ap (λ (x : List Place). x ++ place c n Write ∷ w .1) (h .0)))
-        (λ h. let j = joined-link (V (h .0)) (h .1) in
+          (λ h. (w .1, w .2 ∙ ap (λ (x : List Place). x ++ place c n Write ∷ w .1) (h .0)))
+          (λ h. let j = joined-link (V (h .0)) (h .1) in
           let o : link (V (h .0)) ≡ 0 = h .2 .turnw (ap reader v) (ap (granted F) v) in absurd (omega arith))
-        (first-or-behind F V (w .0) (place c n Write) (w .1)
+          (first-or-behind F V (w .0) (place c n Write) (w .1)
           (chain-is (w .0 ++ place c n Write ∷ w .1) (w .2)))
 
   -- no card behind a writer that is let in is an active reader
   none-behind : (c n d k : ℕ) → V c ≡ holdsW n → V d ≡ activeR k → d ≡ c
   none-behind c n d k v u = let w = holder-first c n v in
-    go (w .0) (chain-is (place c n Write ∷ w .0) (w .1))
+      go (w .0) (chain-is (place c n Write ∷ w .0) (w .1))
       (subst (λ (l : List Place). In d (cards-of l)) (w .1) (I .kept .line .members d (ap joined u)))
     where
       go : (y : List Place) → Chain F V 0 (c ∷ cards-of y) → In d (c ∷ cards-of y) → d ≡ c
       go y h (inl e) = e
       go y h (inr i) = clash (active (V c))
-        (ahead-active F V (cards-of y) c (h .0 .in-line) (h .1) d i (ap reader u) (ap (granted F) u)) (ap active v)
+          (ahead-active F V (cards-of y) c (h .0 .in-line) (h .1) d i (ap reader u) (ap (granted F) u)) (ap active v)
 
   -- one line has one first card
   heads : (c d n k : ℕ) {x y : List Place} → b .line ≡ place c n Write ∷ x
@@ -261,27 +264,28 @@ module _ (z : Size) (b : Book) (I : Inv z b) where
 
   -- who is inside
   pub inside-stands : Inside-stands (cells-of b) b
-  inside-stands = record
-    { first = λ c n w. holder-first c n (inside-view c n w)
-    ; alone = λ c d n k w o. alone c d n k (inside-view c n w) o
-    ; reading = λ c n e. let v : V c ≡ activeR n = ap view e in
-        in-place c n Read (ap joined v) (ap link v) (ap reader v)
-    ; behind-active = λ c n e a w. let v : V c ≡ activeR n = ap view e in
+  inside-stands = record {
+    first = λ c n w. holder-first c n (inside-view c n w);
+    alone = λ c d n k w o. alone c d n k (inside-view c n w) o;
+    reading = λ c n e. let v : V c ≡ activeR n = ap view e in
+        in-place c n Read (ap joined v) (ap link v) (ap reader v);
+    behind-active = λ c n e a w. let v : V c ≡ activeR n = ap view e in
         let h = chain-from F V (w .0) a (w .1 ++ place c n Read ∷ w .2) 0
-          (chain-is (w .0 ++ a ∷ (w .1 ++ place c n Read ∷ w .2)) (ahead-is a _ w)) in
+        (chain-is (w .0 ++ a ∷ (w .1 ++ place c n Read ∷ w .2)) (ahead-is a _ w)) in
         let s = seat (w .0) a (w .1 ++ place c n Read ∷ w .2) (ahead-is a _ w) in
         cell-at (a .card) (a .node) 3 state (s .0)
-          (active-state F (V (a .card)) (h .0) (I .kept .line .cells (a .card)) .0
-            (ahead-active F V (cards-of (w .1 ++ place c n Read ∷ w .2)) (a .card)
-              (h .0) (h .1) c (in-mid (w .1) (place c n Read) (w .2)) (ap reader v) (ap (granted F) v)))
-    ; active-reads = λ a w h.
+        (active-state F (V (a .card)) (h .0) (I .kept .line .cells (a .card)) .0
+        (ahead-active F V (cards-of (w .1 ++ place c n Read ∷ w .2)) (a .card)
+        (h .0) (h .1) c (in-mid (w .1) (place c n Read) (w .2)) (ap reader v) (ap (granted F) v)));
+    active-reads = λ a w h.
         let s = seat (w .0) a (w .1) (w .2) in
         let j = chain-from F V (w .0) a (w .1) 0 (chain-is (w .0 ++ a ∷ w .1) (w .2)) .0 in
         let o = active-state F (V (a .card)) j (I .kept .line .cells (a .card)) .1
-          (ap (λ (x : ℕ). F (state x)) (node-is (V (a .card)) (a .node) (s .0)) ∙ h) in
-        same-mode (a .mode) Read (sym (s .1) ∙ active-is F (V (a .card)) o .0) }
+        (ap (λ (x : ℕ). F (state x)) (link-node (V (a .card)) (a .node) (s .0)) ∙ h) in
+        same-mode (a .mode) Read (sym (s .1) ∙ active-is F (V (a .card)) o .0);
+  }
     where
       alone : (c d n k : ℕ) → V c ≡ holdsW n → promise.Writes-inside b d k ⊎ promise.Reads-inside b d k → d ≡ c
       alone c d n k v (inl w) =
-        heads c d n k (holder-first c n v .1) (holder-first d k (inside-view d k w) .1)
+          heads c d n k (holder-first c n v .1) (holder-first d k (inside-view d k w) .1)
       alone c d n k v (inr e) = none-behind c n d k v (ap view e)

@@ -34,8 +34,8 @@ pub store-seen-alone : (m : Meaning) (c a v : ℕ) → length (m .cells) ≡ 137
     → tx-of m c ≡ none
     → Same (performed m (memory-call.Store c a v)) (seen-on (memory-call.Store c a v) (standing m) (tx-of m) none)
 store-seen-alone m c a v hc ht lc la e =
-  subst (λ (x : Tx).
-      Same (performed m (memory-call.Store c a v)) (seen-on (memory-call.Store c a v) (standing m) (tx-of m) x)) e
+    subst (λ (x : Tx).
+    Same (performed m (memory-call.Store c a v)) (seen-on (memory-call.Store c a v) (standing m) (tx-of m) x)) e
     (bridge m hc ht c lc (memory-call.Store c a v) (refl, la) (subst Recorded (sym e) tt))
 
 -- what they leave: all are accepted, their values stand, the card still has no transaction, the lengths are kept
@@ -51,11 +51,11 @@ pub stores-done : (c : ℕ) (ws : List (ℕ × ℕ)) (m : Meaning) → length (m
     → tx-of m c ≡ none → All-below ws → Stored c ws m (stores c ws m)
 stores-done c [] m hc ht lc e h = record { answer = refl; cell = refl; tx = e; cells = hc; txs = ht }
 stores-done c (w ∷ ws) m hc ht lc e h =
-  let S = store-seen-alone m c (w .0) (w .1) hc ht lc (h .0) e in
-  let next = performed m (memory-call.Store c (w .0) (w .1)) .after in
-  let D = stores-done c ws next (S .cells) (S .txs) lc
-        (ap (λ (t : ℕ → Tx). t c) (S .tx) ∙ at-same (λ d. struck Writes (w .0) (tx-of m d)) c none) (h .1) in
-  subst (λ (r : Result ℕ MemoryFault). Stored c (w ∷ ws) m
-      (elim r [ Ok v ↦ stores c ws next | Err f ↦ (Err (Memory f), next) ])) (sym (S .answer))
+    let S = store-seen-alone m c (w .0) (w .1) hc ht lc (h .0) e in
+    let next = performed m (memory-call.Store c (w .0) (w .1)) .after in
+    let D = stores-done c ws next (S .cells) (S .txs) lc
+    (ap (λ (t : ℕ → Tx). t c) (S .tx) ∙ at-same (λ d. struck Writes (w .0) (tx-of m d)) c none) (h .1) in
+    subst (λ (r : Result ℕ MemoryFault). Stored c (w ∷ ws) m
+    (elim r [ Ok v ↦ stores c ws next | Err f ↦ (Err (Memory f), next) ])) (sym (S .answer))
     (record
-      { answer = D .answer; cell = D .cell ∙ ap (stored ws) (S .cell); tx = D .tx; cells = D .cells; txs = D .txs })
+    { answer = D .answer; cell = D .cell ∙ ap (stored ws) (S .cell); tx = D .tx; cells = D .cells; txs = D .txs })

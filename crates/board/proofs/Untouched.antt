@@ -81,22 +81,25 @@ drop-cells m c = by-test (λ (o : Outcome (Unit {0})). o .after .cells ≡ m .ce
 abort-cells : (z : Size) (b : Book) (c : ℕ) → cells-of (after z b (call.Abort c)) ≡ cells-of b
 unfolding called
 abort-cells z b c =
-  by-test Same (ltb c (z .cards)) (abort-by s c (call-of (z .nodes) c (stage-of s c))) (refuses s NoCard)
+    by-test Same (ltb c (z .cards)) (abort-by s c (call-of (z .nodes) c (stage-of s c))) (refuses s NoCard)
     (by-call (call-of (z .nodes) c (stage-of s c))) refl
   where
     s : LockState
     s = b .board .lock
+
     Same : Turn → Type 0
     Same t = t .1 .meaning .cells ≡ cells-of b
+
     by-answer : (r : Result ℕ MemoryFault) → Same (drop-by s c r (performed (s .meaning) (memory-call.Drop c) .after))
     by-answer (Ok v) = drop-cells (s .meaning) c
     by-answer (Err f) = drop-cells (s .meaning) c
+
     by-call : (o : Option MemoryCall) → Same (abort-by s c o)
     by-call None = refl
     by-call (Some k) = by-test Same (in-transaction k)
-      (drop-by s c (performed (s .meaning) (memory-call.Drop c) .answer)
+        (drop-by s c (performed (s .meaning) (memory-call.Drop c) .answer)
         (performed (s .meaning) (memory-call.Drop c) .after))
-      (refuses s NotAllowed) (by-answer (performed (s .meaning) (memory-call.Drop c) .answer)) refl
+        (refuses s NotAllowed) (by-answer (performed (s .meaning) (memory-call.Drop c) .answer)) refl
 
 -- the cells of two nodes are apart
 other-node : (k n : ℕ) (x : Field) → (k ≡ n → ⊥) → frames.Within k (node-cell n x) → ⊥
@@ -129,32 +132,35 @@ module _ (z : Size) (W : Within z) (b : Book) (I : Inv z b) (n : ℕ) (x : Field
       → standing o ≡ stored (entry-stores k m) F → Keeps (enter-by s c (first-stage k m) (r, o) .1)
   entered-keeps c k m lt (Err f) o e h free-after = let w : _≡_ {A = ℕ} 0 1 = cc in absurd (omega arith)
   entered-keeps c k m lt (Ok u) o e h free-after =
-    ap (λ (f : ℕ → ℕ). f (node-cell n x)) h
-    ∙ stored-other F k (node-cell n x) (entry-stores k m) (entry-within k m) (other-node k n x apart)
+      ap (λ (f : ℕ → ℕ). f (node-cell n x)) h
+      ∙ stored-other F k (node-cell n x) (entry-stores k m) (entry-within k m) (other-node k n x apart)
     where
       t : LockState
       t = staged s o c (first-stage k m)
+
       long : c < length (s .cards)
       long = let w = W .cards in let l = I .kept .cards in omega arith
+
       apart : k ≡ n → ⊥
       apart e = free-unheld t n free-after c
-        (ap (λ (g : Stage). link (view g)) (moved-same s t c (first-stage k m) long refl) ∙ first-link k m ∙ ap suc e)
+          (ap (λ (g : Stage). link (view g)) (moved-same s t c (first-stage k m) long refl)
+          ∙ first-link k m ∙ ap suc e)
 
   -- by the card's stage
   enter-keeps : (c k : ℕ) (m : Mode) → c < z .cards → (g : Stage) → stage-of s c ≡ g → Keeps (enter-at z s c m k g .1)
   enter-keeps c k m lt Idle e =
-    cond-both (ltb k (z .nodes)) _ (refuses s NoPlace) (λ (t : Turn). Keeps (t .1))
+      cond-both (ltb k (z .nodes)) _ (refuses s NoPlace) (λ (t : Turn). Keeps (t .1))
       (λ q. by-test (λ (t : Turn). Keeps (t .1)) (free (s .cards) k)
-        (enter-by s c (first-stage k m) (stores c (entry-stores k m) (s .meaning))) (refuses s NotFree)
-        (let D = done (ltb-true k (z .nodes) q) in
-          entered-keeps c k m lt (stores c (entry-stores k m) (s .meaning) .0)
-            (stores c (entry-stores k m) (s .meaning) .1) (D .answer) (D .cell))
-        (λ _. refl))
+      (enter-by s c (first-stage k m) (stores c (entry-stores k m) (s .meaning))) (refuses s NotFree)
+      (let D = done (ltb-true k (z .nodes) q) in
+      entered-keeps c k m lt (stores c (entry-stores k m) (s .meaning) .0)
+      (stores c (entry-stores k m) (s .meaning) .1) (D .answer) (D .cell))
+      (λ _. refl))
       (λ q _. refl)
     where
       done : k < z .nodes → Stored c (entry-stores k m) (s .meaning) (stores c (entry-stores k m) (s .meaning))
       done lk = let u = W .cards in let v = W .nodes in
-        stores-done c (entry-stores k m) (s .meaning) (I .kept .cells) (I .kept .txs) (omega arith)
+          stores-done c (entry-stores k m) (s .meaning) (I .kept .cells) (I .kept .txs) (omega arith)
           (outside F (stage-of s c) (tx-of (s .meaning) c) (ap in-tx e) (I .kept .isolated .agrees c))
           (within-below k (entry-stores k m) (omega arith) (entry-within k m))
   enter-keeps c k m lt (WriterEnters i at) e = λ _. refl
@@ -183,7 +189,7 @@ module _ (z : Size) (W : Within z) (b : Book) (I : Inv z b) (n : ℕ) (x : Field
   add-keeps : (c k a i : ℕ) (m : Mode) → Keeps (add-at z s c k a i m .1)
   add-keeps c k a i Read = λ _. refl
   add-keeps c k a i Write = by-test (λ (t : Turn). Keeps (t .1)) (ltb k (z .counters))
-    (Ok Done, staged s (s .meaning) c (Adds i (A1 k a))) (refuses s NoPlace) (λ _. refl) (λ _. refl)
+      (Ok Done, staged s (s .meaning) c (Adds i (A1 k a))) (refuses s NoPlace) (λ _. refl) (λ _. refl)
 
   -- a show is one load
   show-keeps : (c k i : ℕ) (m : Mode) → Keeps (show-at z s c k i m .1)
@@ -193,8 +199,10 @@ module _ (z : Size) (W : Within z) (b : Book) (I : Inv z b) (n : ℕ) (x : Field
     where
       load : MemoryCall
       load = memory-call.Load c (counter-cell (z .nodes) k)
+
       same : standing (performed (s .meaning) load .after) (node-cell n x) ≡ F (node-cell n x)
       same = ap (λ (l : List ℕ). getD l (node-cell n x) 0) (load-cells (s .meaning) c (counter-cell (z .nodes) k))
+
       by-answer : (r : Result ℕ MemoryFault) → Keeps (count-by s r (performed (s .meaning) load .after) .1)
       by-answer (Ok v) = λ _. same
       by-answer (Err f) = λ _. same
@@ -202,34 +210,34 @@ module _ (z : Size) (W : Within z) (b : Book) (I : Inv z b) (n : ℕ) (x : Field
   -- a request that the lock judges
   served-keeps : (c : ℕ) (w : Request) → c < z .cards → Keeps (served z s c w .1)
   served-keeps c (Enter m k) lt = by-test (λ (t : Turn). Keeps (t .1)) (ltb c (z .cards))
-    (enter-at z s c m k (stage-of s c)) (refuses s NoCard) (enter-keeps c k m lt (stage-of s c) refl) (λ _. refl)
+      (enter-at z s c m k (stage-of s c)) (refuses s NoCard) (enter-keeps c k m lt (stage-of s c) refl) (λ _. refl)
   served-keeps c Leave lt = by-test (λ (t : Turn). Keeps (t .1)) (ltb c (z .cards))
-    (inside-by s (leave-at s c) (stage-of s c)) (refuses s NoCard)
-    (inside-keeps (leave-at s c) (stage-of s c) (leave-keeps c)) (λ _. refl)
+      (inside-by s (leave-at s c) (stage-of s c)) (refuses s NoCard)
+      (inside-keeps (leave-at s c) (stage-of s c) (leave-keeps c)) (λ _. refl)
   served-keeps c (Add k a) lt = by-test (λ (t : Turn). Keeps (t .1)) (ltb c (z .cards))
-    (inside-by s (add-at z s c k a) (stage-of s c)) (refuses s NoCard)
-    (inside-keeps (add-at z s c k a) (stage-of s c) (add-keeps c k a)) (λ _. refl)
+      (inside-by s (add-at z s c k a) (stage-of s c)) (refuses s NoCard)
+      (inside-keeps (add-at z s c k a) (stage-of s c) (add-keeps c k a)) (λ _. refl)
   served-keeps c (Show k) lt = by-test (λ (t : Turn). Keeps (t .1)) (ltb c (z .cards))
-    (inside-by s (show-at z s c k) (stage-of s c)) (refuses s NoCard)
-    (inside-keeps (show-at z s c k) (stage-of s c) (show-keeps c k)) (λ _. refl)
+      (inside-by s (show-at z s c k) (stage-of s c)) (refuses s NoCard)
+      (inside-keeps (show-at z s c k) (stage-of s c) (show-keeps c k)) (λ _. refl)
 
   -- a step
   step-keeps : (c : ℕ) → n < z .nodes → free (s .cards) n ≡ true
       → standing (after z b (call.Step c) .board .lock .meaning) (node-cell n x) ≡ F (node-cell n x)
   step-keeps c lt fr = ⊎-elim (λ q. ap (λ (t : LockState). standing (t .meaning) (node-cell n x)) (q .0))
-    (λ q. ap (λ (t : LockState). standing (t .meaning) (node-cell n x)) (q .3)
+      (λ q. ap (λ (t : LockState). standing (t .meaning) (node-cell n x)) (q .3)
       ∙ ap (λ (f : ℕ → ℕ). f (node-cell n x)) (row-seen z W b I c (q .0) (q .1) (q .2) .cell)
       ∙ step-unheld c (z .nodes) F (tx-of (s .meaning)) (stage-of s) (cards-of (b .line)) (q .0) (q .2)
-          (I .kept .line) (I .kept .isolated .agrees c) n lt (free-unheld s n fr) x)
-    (step-cases z (b .board) c)
+      (I .kept .line) (I .kept .isolated .agrees c) n lt (free-unheld s n fr) x)
+      (step-cases z (b .board) c)
 
 -- no request, step or abort changes a cell of a node that is free before and after it
 pub untouched : (z : Size) → Within z → (b : Book) → Inv z b → (k : Call)
     → Untouched z k (cells-of b) (cells-of (after z b k)) b (after z b k)
 untouched z W b I (call.Request c t k a y) h n lt fr fr-after x =
-  request-cases z (b .board) c t k a y (λ (u : LockState) (o : Option Request). Keeps z W b I n x u) (λ _. refl)
+    request-cases z (b .board) c t k a y (λ (u : LockState) (o : Option Request). Keeps z W b I n x u) (λ _. refl)
     (λ w lt e. served-keeps z W b I n x c w lt) (λ w lt e. served-keeps z W b I n x c w lt) fr-after
 untouched z W b I (call.Step c) h n lt fr fr-after x = step-keeps z W b I n x c lt fr
 untouched z W b I (call.Abort c) h n lt fr fr-after x =
-  ap (λ (l : List ℕ). getD l (node-cell n x) 0) (abort-cells z b c)
+    ap (λ (l : List ℕ). getD l (node-cell n x) 0) (abort-cells z b c)
 untouched z W b I (call.Reuse c i v) h n lt fr fr-after x = absurd h

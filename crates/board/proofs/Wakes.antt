@@ -50,7 +50,7 @@ use Rattle.board.proofs.Join.{active-state}
 use Rattle.board.proofs.Moves.{aimed}
 use Rattle.board.proofs.Turns.{moved-same, moved-other, same-stage, Taken, Served, served-moves, request-cases}
 use Rattle.board.proofs.Turns.{step-cases, step-is, abort-cases, reuse-cards}
-use Rattle.board.proofs.Stands.{place, node-is, chain-from, seat-in, in-place}
+use Rattle.board.proofs.Stands.{place, link-node, chain-from, seat-in, in-place}
 
 -- Tables: who is about to wake the node m.
 
@@ -155,34 +155,39 @@ pub record Firm (g : Stage) : Type 0 where
 
 -- a card about to wake another, and a reader that waits, are at firm stages
 firm-x5 : (n q : ℕ) → Firm (WriterLeaves n (X5 q))
-firm-x5 n q = record
-  { busy = λ e. let w : _≡_ {A = ℕ} 0 1 = cc in omega arith
-  ; apart = λ a m e. let w : _≡_ {A = ℕ} 0 1 = cc in omega arith
-  ; alone = λ N c. refl }
+firm-x5 n q = record {
+  busy = λ e. let w : _≡_ {A = ℕ} 0 1 = cc in omega arith;
+  apart = λ a m e. let w : _≡_ {A = ℕ} 0 1 = cc in omega arith;
+  alone = λ N c. refl;
+}
 
 firm-y8 : (n q : ℕ) → Firm (ReaderLeaves n (Y8 q))
-firm-y8 n q = record
-  { busy = λ e. let w : _≡_ {A = ℕ} 0 1 = cc in omega arith
-  ; apart = λ a m e. let w : _≡_ {A = ℕ} 0 1 = cc in omega arith
-  ; alone = λ N c. refl }
+firm-y8 n q = record {
+  busy = λ e. let w : _≡_ {A = ℕ} 0 1 = cc in omega arith;
+  apart = λ a m e. let w : _≡_ {A = ℕ} 0 1 = cc in omega arith;
+  alone = λ N c. refl;
+}
 
 firm-r13 : (n q : ℕ) → Firm (ReaderEnters n (R13 q))
-firm-r13 n q = record
-  { busy = λ e. let w : _≡_ {A = ℕ} 0 1 = cc in omega arith
-  ; apart = λ a m e. let w : _≡_ {A = ℕ} 0 1 = cc in omega arith
-  ; alone = λ N c. refl }
+firm-r13 n q = record {
+  busy = λ e. let w : _≡_ {A = ℕ} 0 1 = cc in omega arith;
+  apart = λ a m e. let w : _≡_ {A = ℕ} 0 1 = cc in omega arith;
+  alone = λ N c. refl;
+}
 
 firm-r14 : (n q : ℕ) → Firm (ReaderEnters n (R14 q))
-firm-r14 n q = record
-  { busy = λ e. let w : _≡_ {A = ℕ} 0 1 = cc in omega arith
-  ; apart = λ a m e. let w : _≡_ {A = ℕ} 0 1 = cc in omega arith
-  ; alone = λ N c. refl }
+firm-r14 n q = record {
+  busy = λ e. let w : _≡_ {A = ℕ} 0 1 = cc in omega arith;
+  apart = λ a m e. let w : _≡_ {A = ℕ} 0 1 = cc in omega arith;
+  alone = λ N c. refl;
+}
 
 firm-r8 : (n : ℕ) → Firm (ReaderEnters n R8)
-firm-r8 n = record
-  { busy = λ e. let w : _≡_ {A = ℕ} 0 1 = cc in omega arith
-  ; apart = λ a m e. let w : _≡_ {A = ℕ} 0 1 = cc in omega arith
-  ; alone = λ N c. refl }
+firm-r8 n = record {
+  busy = λ e. let w : _≡_ {A = ℕ} 0 1 = cc in omega arith;
+  apart = λ a m e. let w : _≡_ {A = ℕ} 0 1 = cc in omega arith;
+  alone = λ N c. refl;
+}
 
 -- a request takes no card from a firm stage
 firm-untaken : (w : Request) (g h : Stage) → Firm g → Taken w g h → ⊥
@@ -203,7 +208,7 @@ one-call d (call.Reuse c n v) cs h = (tt, h)
 pub firm-stays : (z : Size) (b : Book) (d : ℕ) (g : Stage) → Firm g → stage b d ≡ g → (k : Call) → No-step d (k ∷ [])
     → stage (after z b k) d ≡ g
 firm-stays z b d g F e (call.Request c t k x y) h =
-  request-cases z (b .board) c t k x y (λ (u : LockState) (o : Option Request). stage-of u d ≡ g) e
+    request-cases z (b .board) c t k x y (λ (u : LockState) (o : Option Request). stage-of u d ≡ g) e
     (λ w lt a. judged w (served-moves z (b .board .lock) c w))
     (λ w lt a. judged w (served-moves z (b .board .lock) c w))
   where
@@ -211,34 +216,35 @@ firm-stays z b d g F e (call.Request c t k x y) h =
         → stage-of (served z (b .board .lock) c w .1) d ≡ g
     judged w (inl q) = same-stage (b .board .lock) (served z (b .board .lock) c w .1) d (q .0) ∙ e
     judged w (inr q) = ⊎-elim
-      (λ p. absurd (firm-untaken w g (q .0) F
+        (λ p. absurd (firm-untaken w g (q .0) F
         (subst (λ (x : Stage). Taken w x (q .0)) (ap (stage-of (b .board .lock)) (sym p) ∙ e) (q .3))))
-      (λ n. moved-other (b .board .lock) (served z (b .board .lock) c w .1) c d (q .0) n (q .1) ∙ e) (cases-eq d c)
+        (λ n. moved-other (b .board .lock) (served z (b .board .lock) c w .1) c d (q .0) n (q .1) ∙ e) (cases-eq d c)
 firm-stays z b d g F e (call.Step c) h = ⊎-elim
-  (λ q. ap (λ (u : LockState). stage-of u d) (q .0) ∙ e)
-  (λ q. moved-other (b .board .lock) (called z (b .board) (call.Step c) .1 .lock) c d
+    (λ q. ap (λ (u : LockState). stage-of u d) (q .0) ∙ e)
+    (λ q. moved-other (b .board .lock) (called z (b .board) (call.Step c) .1 .lock) c d
     (advanced (stage b c) (performed (b .board .lock .meaning) (q .0) .answer) .0)
     (λ p. h .0 (sym p)) (ap (λ (u : LockState). u .cards) (q .3)) ∙ e)
-  (step-cases z (b .board) c)
+    (step-cases z (b .board) c)
 firm-stays z b d g F e (call.Abort c) h = ⊎-elim
-  (λ q. same-stage (b .board .lock) (called z (b .board) (call.Abort c) .1 .lock) d q ∙ e)
-  (λ q. ⊎-elim
+    (λ q. same-stage (b .board .lock) (called z (b .board) (call.Abort c) .1 .lock) d q ∙ e)
+    (λ q. ⊎-elim
     (λ p. let same : stage b c ≡ g = ap (stage b) (sym p) ∙ e in
-      clash (in-transaction (q .0)) (q .3)
-        (sym (ap by-transaction (q .2)) ∙ ap (λ (x : Stage). by-transaction (call-of (z .nodes) c x)) same
-          ∙ F .alone (z .nodes) c))
+    clash (in-transaction (q .0)) (q .3)
+    (sym (ap by-transaction (q .2)) ∙ ap (λ (x : Stage). by-transaction (call-of (z .nodes) c x)) same
+    ∙ F .alone (z .nodes) c))
     (λ n. moved-other (b .board .lock) (called z (b .board) (call.Abort c) .1 .lock) c d _ n (q .4) ∙ e)
     (cases-eq d c))
-  (abort-cases z (b .board) c)
+    (abort-cases z (b .board) c)
 firm-stays z b d g F e (call.Reuse c n v) h =
-  same-stage (b .board .lock) (called z (b .board) (call.Reuse c n v) .1 .lock) d (reuse-cards z (b .board) c n v) ∙ e
+    same-stage (b .board .lock) (called z (b .board) (call.Reuse c n v) .1 .lock) d
+    (reuse-cards z (b .board) c n v) ∙ e
 
 -- nor does a list of such calls
 pub firm-fed : (z : Size) (b : Book) (d : ℕ) (g : Stage) → Firm g → stage b d ≡ g → (cs : List Call) → No-step d cs
     → stage (fed-from z b cs) d ≡ g
 firm-fed z b d g F e [] h = e
 firm-fed z b d g F e (k ∷ cs) h = let q = one-call d k cs h in
-  firm-fed z (after z b k) d g F (firm-stays z b d g F e k (q .0)) cs (q .1)
+    firm-fed z (after z b k) d g F (firm-stays z b d g F e k (q .0)) cs (q .1)
 
 -- Steps that wake.
 
@@ -261,16 +267,16 @@ module _ (z : Size) (W : Within z) (b : Book) (I : Inv z b) where
   pub row-seen : (d : ℕ) (k : MemoryCall) → d < z .cards → call-of (z .nodes) d (stage b d) ≡ Some k
       → Same (performed (b .board .lock .meaning) k) (seen d k F T)
   row-seen d k lt e = let w = W .cards in
-    bridge (b .board .lock .meaning) (I .kept .cells) (I .kept .txs) d (omega arith) k
+      bridge (b .board .lock .meaning) (I .kept .cells) (I .kept .txs) d (omega arith) k
       (ranged (z .nodes) (z .counters) d (stage b d) (W .nodes) (W .counters) (I .kept .sound d) k e)
       (recorded (z .nodes) (z .counters) F (stage b d) (T d) (W .nodes) (I .kept .sound d)
-        (I .kept .isolated .agrees d))
+      (I .kept .isolated .agrees d))
 
   -- the same of a stage without a transaction
   row-alone : (d : ℕ) (g : Stage) (k : MemoryCall) → d < z .cards → stage b d ≡ g → in-tx g ≡ false
       → call-of (z .nodes) d g ≡ Some k → Same (performed (b .board .lock .meaning) k) (seen-on k F T none)
   row-alone d g k lt e i q =
-    subst (λ (x : Tx). Same (performed (b .board .lock .meaning) k) (seen-on k F T x))
+      subst (λ (x : Tx). Same (performed (b .board .lock .meaning) k) (seen-on k F T x))
       (outside F (stage b d) (T d) (ap in-tx e ∙ i) (I .kept .isolated .agrees d))
       (row-seen d k lt (ap (call-of (z .nodes) d) e ∙ q))
 
@@ -279,23 +285,23 @@ module _ (z : Size) (W : Within z) (b : Book) (I : Inv z b) where
       → call-of (z .nodes) d g ≡ Some (memory-call.Store d a 0)
       → standing (after z b (call.Step d) .board .lock .meaning) a ≡ 0
   step-stores d a g lt e i q =
-    ap (λ (u : LockState). standing (u .meaning) a)
+      ap (λ (u : LockState). standing (u .meaning) a)
       (step-is z (b .board) d (memory-call.Store d a 0) lt (ap (call-of (z .nodes) d) e ∙ q))
-    ∙ ap (λ (f : ℕ → ℕ). f a) (row-alone d g (memory-call.Store d a 0) lt e i q .cell)
-    ∙ at-same F a 0
+      ∙ ap (λ (f : ℕ → ℕ). f a) (row-alone d g (memory-call.Store d a 0) lt e i q .cell)
+      ∙ at-same F a 0
 
   -- a step at a stage that loads a cell
   pub step-loads : (d a : ℕ) (g : Stage) → d < z .cards → stage b d ≡ g → in-tx g ≡ false
       → call-of (z .nodes) d g ≡ Some (memory-call.Load d a)
       → stage (after z b (call.Step d)) d ≡ advanced g (Ok (F a)) .0
   step-loads d a g lt e i q =
-    moved-same (b .board .lock) (called z (b .board) (call.Step d) .1 .lock) d
+      moved-same (b .board .lock) (called z (b .board) (call.Step d) .1 .lock) d
       (advanced (stage b d) (performed (b .board .lock .meaning) (memory-call.Load d a) .answer) .0) long
       (ap (λ (u : LockState). u .cards)
-        (step-is z (b .board) d (memory-call.Load d a) lt (ap (call-of (z .nodes) d) e ∙ q)))
-    ∙ ap (λ (r : Result ℕ MemoryFault). advanced (stage b d) r .0)
-        (row-alone d g (memory-call.Load d a) lt e i q .answer)
-    ∙ ap (λ (x : Stage). advanced x (Ok (F a)) .0) e
+      (step-is z (b .board) d (memory-call.Load d a) lt (ap (call-of (z .nodes) d) e ∙ q)))
+      ∙ ap (λ (r : Result ℕ MemoryFault). advanced (stage b d) r .0)
+      (row-alone d g (memory-call.Load d a) lt e i q .answer)
+      ∙ ap (λ (x : Stage). advanced x (Ok (F a)) .0) e
     where
       long : d < length (b .board .lock .cards)
       long = let w = W .cards in let k = I .kept .cards in omega arith
@@ -308,7 +314,7 @@ r8-waits m (suc v) h = refl
 -- a card that waits is in line with its node and its mode
 waits-view : (b : Book) (c n : ℕ) (m : Mode) → Waits b c n m
     → (joined (view (stage b c)) ≡ true) × (link (view (stage b c)) ≡ suc n)
-      × (reader (view (stage b c)) ≡ reads-mode m)
+    × (reader (view (stage b c)) ≡ reads-mode m)
 waits-view b c n Write e = let v = ap view e in (ap joined v, ap link v, ap reader v)
 waits-view b c n Read e = let v = ap view e in (ap joined v, ap link v, ap reader v)
 
@@ -336,26 +342,27 @@ module _ (z : Size) (W : Within z) (keep : (b : Book) (k : Call) → Inv z b →
   store-next : (b : Book) → Inv z b → (d m : ℕ) (g : Stage) → Firm g → stage b d ≡ g → in-tx g ≡ false
       → call-of (z .nodes) d g ≡ Some (memory-call.Store d (spin m) 0) → Wakes-next z b d m
   store-next b I d m g H e i q cs h =
-    step-stores z W (fed-from z b cs) (inv-fed b I cs) d (spin m) g
+      step-stores z W (fed-from z b cs) (inv-fed b I cs) d (spin m) g
       (there z W b I d (λ p. H .busy (sym e ∙ p))) (firm-fed z b d g H e cs h) i q
 
   -- the spin of a reader that is about to be seen is not 0 yet
   seen-waits : (b : Book) → Inv z b → (d c n m : ℕ) → stage b d ≡ ReaderEnters n (R13 (suc m))
       → stage b c ≡ ReaderEnters m R8 → standing (b .board .lock .meaning) (spin m) ≡ 0 → ⊥
   seen-waits b I d c n m e w o = ⊎-elim
-    (λ E. let a = ap (λ (g : Stage). target (view g)) e in let t = E .aimless in omega arith)
-    (λ q. let A = aimed F (V d) (V (q .0)) m (q .2) (ap (λ (g : Stage). target (view g)) e) in
+      (λ E. let a = ap (λ (g : Stage). target (view g)) e in let t = E .aimless in omega arith)
+      (λ q. let A = aimed F (V d) (V (q .0)) m (q .2) (ap (λ (g : Stage). target (view g)) e) in
       let lc : link (V c) ≡ suc m = ap (λ (g : Stage). link (view g)) w in
       ⊎-elim
-        (λ p. clash (granted F (V c)) (ap (λ (g : Stage). granted F (view g)) w ∙ eq-eqb (F (spin m)) 0 o)
-          (ap (λ (x : ℕ). granted F (V x)) (sym p) ∙ A .1))
-        (λ p. let a = A .0 in omega arith)
-        (I .kept .line .nodes (q .0) c (A .0 ∙ sym lc)))
-    (chain-behind F V (cards-of (b .line)) 0 (I .kept .line .chain) d
+      (λ p. clash (granted F (V c)) (ap (λ (g : Stage). granted F (view g)) w ∙ eq-eqb (F (spin m)) 0 o)
+      (ap (λ (x : ℕ). granted F (V x)) (sym p) ∙ A .1))
+      (λ p. let a = A .0 in omega arith)
+      (I .kept .line .nodes (q .0) c (A .0 ∙ sym lc)))
+      (chain-behind F V (cards-of (b .line)) 0 (I .kept .line .chain) d
       (I .kept .line .members d (ap (λ (g : Stage). joined (view g)) e)))
     where
       F : ℕ → ℕ
       F = standing (b .board .lock .meaning)
+
       V : ℕ → View
       V x = view (stage b x)
 
@@ -363,24 +370,24 @@ module _ (z : Size) (W : Within z) (keep : (b : Book) (k : Call) → Inv z b →
   seen-stays : (b : Book) → Inv z b → (d c n m : ℕ) → stage b d ≡ ReaderEnters n (R13 (suc m))
       → stage b c ≡ ReaderEnters m R8 → (k : Call) → stage (after z b k) c ≡ ReaderEnters m R8
   seen-stays b I d c n m e w (call.Request a t k x y) =
-    firm-stays z b c (ReaderEnters m R8) (firm-r8 m) w (call.Request a t k x y) tt
+      firm-stays z b c (ReaderEnters m R8) (firm-r8 m) w (call.Request a t k x y) tt
   seen-stays b I d c n m e w (call.Abort a) = firm-stays z b c (ReaderEnters m R8) (firm-r8 m) w (call.Abort a) tt
   seen-stays b I d c n m e w (call.Reuse a i v) =
-    firm-stays z b c (ReaderEnters m R8) (firm-r8 m) w (call.Reuse a i v) tt
+      firm-stays z b c (ReaderEnters m R8) (firm-r8 m) w (call.Reuse a i v) tt
   seen-stays b I d c n m e w (call.Step a) = ⊎-elim
-    (λ p. subst (λ (x : ℕ). stage (after z b (call.Step x)) c ≡ ReaderEnters m R8) (sym p)
+      (λ p. subst (λ (x : ℕ). stage (after z b (call.Step x)) c ≡ ReaderEnters m R8) (sym p)
       (step-loads z W b I c (spin m) (ReaderEnters m R8) (there z W b I c (λ q. firm-r8 m .busy (sym w ∙ q)))
-        w refl refl
-        ∙ r8-waits m (standing (b .board .lock .meaning) (spin m)) (seen-waits b I d c n m e w)))
-    (λ p. firm-stays z b c (ReaderEnters m R8) (firm-r8 m) w (call.Step a) (p, tt))
-    (cases-eq a c)
+      w refl refl
+      ∙ r8-waits m (standing (b .board .lock .meaning) (spin m)) (seen-waits b I d c n m e w)))
+      (λ p. firm-stays z b c (ReaderEnters m R8) (firm-r8 m) w (call.Step a) (p, tt))
+      (cases-eq a c)
 
   -- through a list of calls
   seen-fed : (b : Book) → Inv z b → (d c n m : ℕ) → stage b d ≡ ReaderEnters n (R13 (suc m))
       → stage b c ≡ ReaderEnters m R8 → (cs : List Call) → No-step d cs → stage (fed-from z b cs) c ≡ ReaderEnters m R8
   seen-fed b I d c n m e w [] h = w
   seen-fed b I d c n m e w (k ∷ cs) h = let q = one-call d k cs h in
-    seen-fed (after z b k) (keep b k I) d c n m
+      seen-fed (after z b k) (keep b k I) d c n m
       (firm-stays z b d (ReaderEnters n (R13 (suc m))) (firm-r13 n (suc m)) e k (q .0))
       (seen-stays b I d c n m e w k) cs (q .1)
 
@@ -391,17 +398,17 @@ module _ (z : Size) (W : Within z) (keep : (b : Book) (k : Call) → Inv z b →
     where
       soon : (cs : List Call) → No-step d cs → Wakes-next z (after z (fed-from z b cs) (call.Step d)) d m
       soon cs h =
-        let J = inv-fed b I cs in
-        let now = firm-fed z b d (ReaderEnters n (R13 (suc m))) (firm-r13 n (suc m)) e cs h in
-        let waits = seen-fed b I d c n m e w cs h in
-        let one : standing (fed-from z b cs .board .lock .meaning) (state m) ≡ 1
-              = subst (λ (g : Stage). Cells (standing (fed-from z b cs .board .lock .meaning)) (view g)) waits
-                  (J .kept .line .cells c) in
-        store-next (after z (fed-from z b cs) (call.Step d)) (keep (fed-from z b cs) (call.Step d) J) d m
+          let J = inv-fed b I cs in
+          let now = firm-fed z b d (ReaderEnters n (R13 (suc m))) (firm-r13 n (suc m)) e cs h in
+          let waits = seen-fed b I d c n m e w cs h in
+          let one : standing (fed-from z b cs .board .lock .meaning) (state m) ≡ 1
+          = subst (λ (g : Stage). Cells (standing (fed-from z b cs .board .lock .meaning)) (view g)) waits
+          (J .kept .line .cells c) in
+          store-next (after z (fed-from z b cs) (call.Step d)) (keep (fed-from z b cs) (call.Step d) J) d m
           (ReaderEnters n (R14 (suc m))) (firm-r14 n (suc m))
           (step-loads z W (fed-from z b cs) J d (state m) (ReaderEnters n (R13 (suc m)))
-            (there z W b I d (λ p. firm-r13 n (suc m) .busy (sym e ∙ p))) now refl refl
-            ∙ ap (λ (v : ℕ). advanced (ReaderEnters n (R13 (suc m))) (Ok v) .0) one)
+          (there z W b I d (λ p. firm-r13 n (suc m) .busy (sym e ∙ p))) now refl refl
+          ∙ ap (λ (v : ℕ). advanced (ReaderEnters n (R13 (suc m))) (Ok v) .0) one)
           refl refl
 
   module _ (b : Book) (I : Inv z b) where
@@ -411,10 +418,15 @@ module _ (z : Size) (W : Within z) (keep : (b : Book) (k : Call) → Inv z b →
 
     -- by a card that has left the line
     hand-soon : (c d m : ℕ) → (d ≡ c → ⊥) → hand (view (stage b d)) ≡ suc m → Soon c m
-    hand-soon c d m n h = (d, lt, n, inl (⊎-elim
-        (λ w. store-next b I d m (WriterLeaves (w .0) (X5 (suc m))) (firm-x5 (w .0) (suc m)) (w .1) refl refl)
-        (λ w. store-next b I d m (ReaderLeaves (w .0) (Y8 (suc m))) (firm-y8 (w .0) (suc m)) (w .1) refl refl)
-        (hands-is (stage b d) m h)))
+    hand-soon c d m n h = (
+      d,
+      lt,
+      n,
+      inl (⊎-elim
+          (λ w. store-next b I d m (WriterLeaves (w .0) (X5 (suc m))) (firm-x5 (w .0) (suc m)) (w .1) refl refl)
+          (λ w. store-next b I d m (ReaderLeaves (w .0) (Y8 (suc m))) (firm-y8 (w .0) (suc m)) (w .1) refl refl)
+          (hands-is (stage b d) m h)),
+    )
       where
         lt : d < z .cards
         lt = there z W b I d (λ e. let o = ap (λ (g : Stage). hand (view g)) e in omega arith)
@@ -422,10 +434,16 @@ module _ (z : Size) (W : Within z) (keep : (b : Book) (k : Call) → Inv z b →
     -- by the active reader right ahead
     target-soon : (c d m : ℕ) → (d ≡ c → ⊥) → stage b c ≡ ReaderEnters m R8 → target (view (stage b d)) ≡ suc m
         → Soon c m
-    target-soon c d m n w h = (d, lt, n, ⊎-elim
-        (λ q. sees-then-wakes b I d c (q .0) m (q .1) w)
-        (λ q. inl (store-next b I d m (ReaderEnters (q .0) (R14 (suc m))) (firm-r14 (q .0) (suc m)) (q .1) refl refl))
-        (target-is (stage b d) m h))
+    target-soon c d m n w h = (
+      d,
+      lt,
+      n,
+      ⊎-elim
+          (λ q. sees-then-wakes b I d c (q .0) m (q .1) w)
+          (λ q. inl (store-next b I d m (ReaderEnters (q .0) (R14 (suc m))) (firm-r14 (q .0) (suc m))
+          (q .1) refl refl))
+          (target-is (stage b d) m h),
+    )
       where
         lt : d < z .cards
         lt = there z W b I d (λ e. let o = ap (λ (g : Stage). target (view g)) e in omega arith)
@@ -436,14 +454,14 @@ module _ (z : Size) (W : Within z) (keep : (b : Book) (k : Call) → Inv z b →
         → (standing (b .board .lock .meaning) (spin n) ≡ 0) ⊎ Soon c n
     first-woken c n m w y e = by-baton
         (subst (λ (l : List Place). Baton (standing (b .board .lock .meaning)) (λ d. view (stage b d)) (cards-of l)) e
-          (I .kept .line .baton))
+        (I .kept .line .baton))
       where
         by-baton : Baton (standing (b .board .lock .meaning)) (λ d. view (stage b d)) (c ∷ cards-of y)
             → (standing (b .board .lock .meaning) (spin n) ≡ 0) ⊎ Soon c n
         by-baton (inl B) = inl (waits-granted (standing (b .board .lock .meaning)) b c n m w (B .1))
         by-baton (inr B) = inr (hand-soon c (B .0) n
-          (λ p. B .1 (ap (λ (x : ℕ). hand (view (stage b x))) p ∙ waits-hand b c n m w .0))
-          (B .3 .0 ∙ waits-view b c n m w .1))
+            (λ p. B .1 (ap (λ (x : ℕ). hand (view (stage b x))) p ∙ waits-hand b c n m w .0))
+            (B .3 .0 ∙ waits-view b c n m w .1))
 
     -- a reader behind an active one
     reader-woken : (c n : ℕ) → stage b c ≡ ReaderEnters n R8 → (a : Place)
@@ -453,30 +471,37 @@ module _ (z : Size) (W : Within z) (keep : (b : Book) (k : Call) → Inv z b →
       where
         F : ℕ → ℕ
         F = standing (b .board .lock .meaning)
+
         V : ℕ → View
         V d = view (stage b d)
+
         split : b .line ≡ r .0 ++ a ∷ place c n Read ∷ r .1
         split = r .2
+
         chain : (joined (V (a .card)) ≡ true) × Chain F V (suc (a .card)) (c ∷ cards-of (r .1))
         chain = chain-from F V (r .0) a (place c n Read ∷ r .1) 0
-          (subst (λ (l : List Place). Chain F V 0 (cards-of l)) split (I .kept .line .chain))
+            (subst (λ (l : List Place). Chain F V 0 (cards-of l)) split (I .kept .line .chain))
+
         node-of : node (V (a .card)) ≡ a .node
-        node-of = node-is (V (a .card)) (a .node) (seat-in (stage b) (r .0) a
-          (place c n Read ∷ r .1) (subst (Seated (stage b)) split (I .seated)) .0)
+        node-of = link-node (V (a .card)) (a .node) (seat-in (stage b) (r .0) a
+            (place c n Read ∷ r .1) (subst (Seated (stage b)) split (I .seated)) .0)
+
         act : active (V (a .card)) ≡ true
         act = active-state F (V (a .card)) (chain .0) (I .kept .line .cells (a .card)) .1
-          (ap (λ (x : ℕ). F (state x)) node-of ∙ o)
+            (ap (λ (x : ℕ). F (state x)) node-of ∙ o)
+
         by-grant : (t : Bool) → granted F (V c) ≡ t → (F (spin n) ≡ 0) ⊎ Soon c n
         by-grant true g = inl (waits-granted F b c n Read w g)
         by-grant false g = inr (target-soon c (a .card) n
-          (λ p. clash (active (V c)) (ap (λ (x : ℕ). active (V x)) (sym p) ∙ act) (ap active (ap view w)))
-          w (chain .1 .0 .owed act (ap reader (ap view w)) g ∙ ap link (ap view w)))
+            (λ p. clash (active (V c)) (ap (λ (x : ℕ). active (V x)) (sym p) ∙ act) (ap active (ap view w)))
+            w (chain .1 .0 .owed act (ap reader (ap view w)) g ∙ ap link (ap view w)))
 
     -- no lost wake
     pub wakes-stand : Wakes-stand z (cells-of b) b
-    wakes-stand = record
-      { waiting = λ c n m w. let v = waits-view b c n m w in in-place z b I c n m (v .0) (v .1) (v .2)
-      ; woken = woken }
+    wakes-stand = record {
+      waiting = λ c n m w. let v = waits-view b c n m w in in-place z b I c n m (v .0) (v .1) (v .2);
+      woken = woken;
+    }
       where
         woken : (c n : ℕ) (m : Mode) → Waits b c n m
             → promise.Turn-come (cells-of b) (b .line) (place c n m)

@@ -33,7 +33,7 @@ use Rattle.board.proofs.Inv.{cards-of, Seated, Inv}
 use Rattle.board.proofs.Lists.{once-few}
 use Rattle.board.proofs.Links.{sound-link}
 use Rattle.board.proofs.Moves.{joined-link}
-use Rattle.board.proofs.Stands.{node-is}
+use Rattle.board.proofs.Stands.{link-node}
 
 -- Tables of the stages.
 
@@ -96,19 +96,19 @@ pub ahead-false : (m : Meaning) (k : ℕ) (cs : List Card)
     → ((i : ℕ) → i < length cs → points m (getD cs i idle-card .stage) k ≡ false) → has-ahead m cs k ≡ false
 ahead-false m k [] h = refl
 ahead-false m k (r ∷ rs) h =
-  ap (λ (b : Bool). cond b true (has-ahead m rs k)) (h 0 (omega arith))
-  ∙ ahead-false m k rs (λ i lt. h (suc i) (omega arith))
+    ap (λ (b : Bool). cond b true (has-ahead m rs k)) (h 0 (omega arith))
+    ∙ ahead-false m k rs (λ i lt. h (suc i) (omega arith))
 
 -- the first link is that of the only card that leads
 pub first-is : (m : Meaning) (all : List Card) (k : ℕ) (cs : List Card)
     → ((i : ℕ) → i < length cs → leads m all (getD cs i idle-card .stage) ≡ true
-        → line-link (getD cs i idle-card .stage) ≡ k)
+    → line-link (getD cs i idle-card .stage) ≡ k)
     → (i : ℕ) → i < length cs → leads m all (getD cs i idle-card .stage) ≡ true → first-link m all cs ≡ k
 first-is m all k [] only i lt l = absurd (omega arith)
 first-is m all k (r ∷ rs) only zero lt l =
-  ap (λ (b : Bool). cond b (line-link (r .stage)) (first-link m all rs)) l ∙ only 0 (omega arith) l
+    ap (λ (b : Bool). cond b (line-link (r .stage)) (first-link m all rs)) l ∙ only 0 (omega arith) l
 first-is m all k (r ∷ rs) only (suc i) lt l =
-  go (leads m all (r .stage)) refl (first-is m all k rs (λ j lt. only (suc j) (omega arith)) i (omega arith) l)
+    go (leads m all (r .stage)) refl (first-is m all k rs (λ j lt. only (suc j) (omega arith)) i (omega arith) l)
   where
     go : (b : Bool) → leads m all (r .stage) ≡ b → first-link m all rs ≡ k
         → cond b (line-link (r .stage)) (first-link m all rs) ≡ k
@@ -120,8 +120,8 @@ pub first-none : (m : Meaning) (all cs : List Card)
     → ((i : ℕ) → i < length cs → leads m all (getD cs i idle-card .stage) ≡ false) → first-link m all cs ≡ 0
 first-none m all [] h = refl
 first-none m all (r ∷ rs) h =
-  ap (λ (b : Bool). cond b (line-link (r .stage)) (first-link m all rs)) (h 0 (omega arith))
-  ∙ first-none m all rs (λ i lt. h (suc i) (omega arith))
+    ap (λ (b : Bool). cond b (line-link (r .stage)) (first-link m all rs)) (h 0 (omega arith))
+    ∙ first-none m all rs (λ i lt. h (suc i) (omega arith))
 
 -- a walk from nobody
 walk-none : (m : Meaning) (f : ℕ) → walk m f 0 ≡ []
@@ -158,7 +158,8 @@ module _ (z : Size) (W : Within z) (b : Book) (I : Inv z b) where
   -- a card in line is on the board
   pub joined-there : (c : ℕ) → joined (V c) ≡ true → c < z .cards
   joined-there c j = ⊎-elim (λ lt. lt)
-    (λ le. clash (joined (V c)) j (ap (λ (g : Stage). joined (view g)) (I .kept .absent c le))) (cases-lt c (z .cards))
+      (λ le. clash (joined (V c)) j (ap (λ (g : Stage). joined (view g)) (I .kept .absent c le)))
+      (cases-lt c (z .cards))
 
   -- and so is its node
   node-there : (c n : ℕ) → link (V c) ≡ suc n → n < z .nodes
@@ -179,15 +180,16 @@ module _ (z : Size) (W : Within z) (b : Book) (I : Inv z b) where
   -- what stands in the next of a node
   behind-is : (n : ℕ) → n < z .nodes → behind M (suc n) ≡ F (next n)
   behind-is n lt = let w = W .nodes in
-    ap (λ (b : Bool). seen (cond b (Ok (F (next n))) (Err (record { refusal = OutOfRange; card = 0; cell = next n }))))
+      ap (λ (b : Bool). seen
+      (cond b (Ok (F (next n))) (Err (record { refusal = OutOfRange; card = 0; cell = next n }))))
       (lt-ltb (next n) 137 (omega arith))
 
   -- whether a card in line points at a link
   points-in : (a k : ℕ) → joined (V a) ≡ true → points M (S a) k ≡ eqb (F (next (node (V a)))) k
   points-in a k j = ap (λ (x : ℕ). cond (eqb x 0) false (eqb (behind M x) k)) (link-in a j)
-    ∙ ap (λ (x : Bool). cond x false (eqb (behind M (suc (node (V a)))) k))
-        (ne-eqb (suc (node (V a))) 0 (λ e. omega arith))
-    ∙ ap (λ (x : ℕ). eqb x k) (behind-is (node (V a)) (node-there a (node (V a)) (joined-link (V a) j)))
+      ∙ ap (λ (x : Bool). cond x false (eqb (behind M (suc (node (V a)))) k))
+      (ne-eqb (suc (node (V a))) 0 (λ e. omega arith))
+      ∙ ap (λ (x : ℕ). eqb x k) (behind-is (node (V a)) (node-there a (node (V a)) (joined-link (V a) j)))
 
   -- a card that is not in line does not
   points-out : (a k : ℕ) → joined (V a) ≡ false → points M (S a) k ≡ false
@@ -201,19 +203,19 @@ module _ (z : Size) (W : Within z) (b : Book) (I : Inv z b) where
   leads-by : (c : ℕ) (t : Bool) → joined (V c) ≡ true → has-ahead M R (suc (node (V c))) ≡ t
       → leads M R (S c) ≡ cond t false true
   leads-by c t j h = ap (λ (x : ℕ). cond (eqb x 0) false (cond (has-ahead M R x) false true)) (link-in c j)
-    ∙ ap (λ (x : Bool). cond x false (cond (has-ahead M R (suc (node (V c)))) false true))
-        (ne-eqb (suc (node (V c))) 0 (λ e. omega arith))
-    ∙ ap (λ (x : Bool). cond x false true) h
+      ∙ ap (λ (x : Bool). cond x false (cond (has-ahead M R (suc (node (V c)))) false true))
+      (ne-eqb (suc (node (V c))) 0 (λ e. omega arith))
+      ∙ ap (λ (x : Bool). cond x false true) h
 
   -- a card behind another does not lead
   behind-waits : (a c : ℕ) → joined (V a) ≡ true → joined (V c) ≡ true → Spot F (V a) (V c) → leads M R (S c) ≡ false
   behind-waits a c ja jc P = leads-by c true jc
-    (ahead-true M (suc (node (V c))) R a (in-records a (joined-there a ja))
+      (ahead-true M (suc (node (V c))) R a (in-records a (joined-there a ja))
       (points-in a (suc (node (V c))) ja ∙ eq-eqb (F (next (node (V a)))) (suc (node (V c))) points-at))
     where
       points-at : F (next (node (V a))) ≡ suc (node (V c))
       points-at = let k = joined-link (V a) ja in
-        ⊎-elim (λ e. absurd (omega arith)) (λ e. e ∙ joined-link (V c) jc) (P .from)
+          ⊎-elim (λ e. absurd (omega arith)) (λ e. e ∙ joined-link (V c) jc) (P .from)
 
   -- the first leads
   first-leads : (c : ℕ) (l : List ℕ) → Chain F V 0 (c ∷ l) → Once (c ∷ l) → cards-of (b .line) ≡ c ∷ l
@@ -222,20 +224,23 @@ module _ (z : Size) (W : Within z) (b : Book) (I : Inv z b) where
     where
       lc : link (V c) ≡ suc (node (V c))
       lc = joined-link (V c) (h .0 .in-line)
+
       other : (a : ℕ) → joined (V a) ≡ true → End F (V a) ⊎ ((d : ℕ) × In d l × Spot F (V a) (V d))
           → F (next (node (V a))) ≡ suc (node (V c)) → ⊥
       other a j (inl k) q = let o = joined-link (V a) j in ⊎-elim (λ x. omega arith) (λ x. omega arith) (k .last)
       other a j (inr w) q = let o = joined-link (V a) j in
-        ⊎-elim (λ x. omega arith)
+          ⊎-elim (λ x. omega arith)
           (λ x. ⊎-elim (λ p. u .0 (subst (λ (y : ℕ). In y l) p (w .1)))
-            (λ p. let k = lc in let y = x ∙ p in omega arith)
-            (I .kept .line .nodes (w .0) c (sym x ∙ q ∙ sym lc)))
+          (λ p. let k = lc in let y = x ∙ p in omega arith)
+          (I .kept .line .nodes (w .0) c (sym x ∙ q ∙ sym lc)))
           (w .2 .from)
+
       by-view : (a : ℕ) (t : Bool) → joined (V a) ≡ t → points M (S a) (suc (node (V c))) ≡ false
       by-view a false j = points-out a (suc (node (V c))) j
       by-view a true j = points-in a (suc (node (V c))) j
-        ∙ ne-eqb (F (next (node (V a)))) (suc (node (V c)))
-            (other a j (behind-tail F V c l 0 h a (subst (In a) e (I .kept .line .members a j))))
+          ∙ ne-eqb (F (next (node (V a)))) (suc (node (V c)))
+          (other a j (behind-tail F V c l 0 h a (subst (In a) e (I .kept .line .members a j))))
+
       none : (a : ℕ) → a < length R → points M (getD R a idle-card .stage) (suc (node (V c))) ≡ false
       none a lt = by-view a (joined (V a)) refl
 
@@ -247,7 +252,8 @@ module _ (z : Size) (W : Within z) (b : Book) (I : Inv z b) where
       by-place : joined (V a) ≡ true → In a (c ∷ l) → line-link (S a) ≡ suc (node (V c))
       by-place j (inl p) = link-in a j ∙ ap (λ (x : ℕ). suc (node (V x))) p
       by-place j (inr i) = let w = chain-pred F V l c (h .0 .in-line) (h .1) a i in
-        clash (leads M R (S a)) lead (behind-waits (w .0) a (w .1) j (w .2))
+          clash (leads M R (S a)) lead (behind-waits (w .0) a (w .1) j (w .2))
+
       by-view : (t : Bool) → joined (V a) ≡ t → line-link (S a) ≡ suc (node (V c))
       by-view true j = by-place j (subst (In a) e (I .kept .line .members a j))
       by-view false j = clash (leads M R (S a)) lead (leads-out a j)
@@ -255,13 +261,13 @@ module _ (z : Size) (W : Within z) (b : Book) (I : Inv z b) where
   -- the first link found is that of the first in line
   found-first : (p : Place) (l : List Place) → b .line ≡ p ∷ l → first-link M R R ≡ suc (p .node)
   found-first p l e =
-    let h = subst (λ (x : List Place). Chain F V 0 (cards-of x)) e (I .kept .line .chain) in
-    let u = subst (λ (x : List Place). Once (cards-of x)) e (I .kept .line .once) in
-    let s = subst (Seated S) e (I .seated) in
-    let q = ap cards-of e in
-    first-is M R (suc (node (V (p .card)))) R (λ a lt lead. only-leads (p .card) (cards-of l) h q a lead) (p .card)
+      let h = subst (λ (x : List Place). Chain F V 0 (cards-of x)) e (I .kept .line .chain) in
+      let u = subst (λ (x : List Place). Once (cards-of x)) e (I .kept .line .once) in
+      let s = subst (Seated S) e (I .seated) in
+      let q = ap cards-of e in
+      first-is M R (suc (node (V (p .card)))) R (λ a lt lead. only-leads (p .card) (cards-of l) h q a lead) (p .card)
       (in-records (p .card) (joined-there (p .card) (h .0 .in-line))) (first-leads (p .card) (cards-of l) h u q)
-    ∙ ap suc (node-is (V (p .card)) (p .node) (s .0))
+      ∙ ap suc (link-node (V (p .card)) (p .node) (s .0))
 
   -- or of nobody
   found-none : b .line ≡ [] → first-link M R R ≡ 0
@@ -277,26 +283,26 @@ module _ (z : Size) (W : Within z) (b : Book) (I : Inv z b) where
   unfolding walk
   walk-line p l k zero h s le = absurd (omega arith)
   walk-line p [] k (suc f) h s le =
-    ap (λ (x : ℕ). p .node ∷ walk M f x) (behind-is (p .node) (node-there (p .card) (p .node) (s .0)) ∙ nobody)
-    ∙ ap (λ (x : List ℕ). p .node ∷ x) (walk-none M f)
+      ap (λ (x : ℕ). p .node ∷ walk M f x) (behind-is (p .node) (node-there (p .card) (p .node) (s .0)) ∙ nobody)
+      ∙ ap (λ (x : List ℕ). p .node ∷ x) (walk-none M f)
     where
       nobody : F (next (p .node)) ≡ 0
       nobody = let a = s .0 in
-        ap (λ (x : ℕ). F (next x)) (sym (node-is (V (p .card)) (p .node) (s .0)))
-        ∙ ⊎-elim (λ e. absurd (omega arith)) (λ e. e) (h .1 .last)
+          ap (λ (x : ℕ). F (next x)) (sym (link-node (V (p .card)) (p .node) (s .0)))
+          ∙ ⊎-elim (λ e. absurd (omega arith)) (λ e. e) (h .1 .last)
   walk-line p (q ∷ l) k (suc f) h s le =
-    ap (λ (x : ℕ). p .node ∷ walk M f x) (behind-is (p .node) (node-there (p .card) (p .node) (s .0)) ∙ somebody)
-    ∙ ap (λ (x : List ℕ). p .node ∷ x) (walk-line q l (suc (p .card)) f (h .1) (s .2) (omega arith))
+      ap (λ (x : ℕ). p .node ∷ walk M f x) (behind-is (p .node) (node-there (p .card) (p .node) (s .0)) ∙ somebody)
+      ∙ ap (λ (x : List ℕ). p .node ∷ x) (walk-line q l (suc (p .card)) f (h .1) (s .2) (omega arith))
     where
       somebody : F (next (p .node)) ≡ suc (q .node)
       somebody = let a = s .0 in
-        ap (λ (x : ℕ). F (next x)) (sym (node-is (V (p .card)) (p .node) (s .0)))
-        ∙ ⊎-elim (λ e. absurd (omega arith)) (λ e. e ∙ s .2 .0) (h .1 .0 .from)
+          ap (λ (x : ℕ). F (next x)) (sym (link-node (V (p .card)) (p .node) (s .0)))
+          ∙ ⊎-elim (λ e. absurd (omega arith)) (λ e. e ∙ s .2 .0) (h .1 .0 .from)
 
   -- there are never more than eight in line
   line-few : length (cards-of (b .line)) ≤ 8
   line-few = once-few 8 (cards-of (b .line)) (I .kept .line .once)
-    (λ c i. let lt = joined-there c (chain-joined F V (cards-of (b .line)) 0 (I .kept .line .chain) c i) in
+      (λ c i. let lt = joined-there c (chain-joined F V (cards-of (b .line)) 0 (I .kept .line .chain) c i) in
       let w = W .cards in omega arith)
 
   -- the tablet's line call answers the book's line
@@ -306,5 +312,5 @@ module _ (z : Size) (W : Within z) (b : Book) (I : Inv z b) where
       go : (l : List Place) → b .line ≡ l → walk M 8 (first-link M R R) ≡ map (λ (q : Place). q .node) l
       go [] e = ap (walk M 8) (found-none e) ∙ walk-none M 8
       go (p ∷ l) e = ap (walk M 8) (found-first p l e)
-        ∙ walk-line p l 0 8 (subst (λ (x : List Place). Chain F V 0 (cards-of x)) e (I .kept .line .chain))
-            (subst (Seated S) e (I .seated)) (subst (λ (x : List Place). length (cards-of x) ≤ 8) e line-few)
+          ∙ walk-line p l 0 8 (subst (λ (x : List Place). Chain F V 0 (cards-of x)) e (I .kept .line .chain))
+          (subst (Seated S) e (I .seated)) (subst (λ (x : List Place). length (cards-of x) ≤ 8) e line-few)
