@@ -84,12 +84,12 @@ well-cond false x y h k = k
 
 understood-well : (t k a b : ℕ) → Well (understood t k a b)
 understood-well t k a b =
-  let no : door.number Malformed ≡ 8 → ⊥ = λ e. omega arith in
-  well-cond (ltb t 2) (worded k a b) (Err Malformed)
+    let no : door.number Malformed ≡ 8 → ⊥ = λ e. omega arith in
+    well-cond (ltb t 2) (worded k a b) (Err Malformed)
     (well-cond (eqb k 1) _ _ (well-cond (eqb b 0) _ _ tt no)
-      (well-cond (eqb k 2) _ _ (well-cond (eqb b 0) _ _ tt no)
-        (well-cond (eqb k 3) _ _ (well-cond (eqb a 0) _ _ (well-cond (eqb b 0) _ _ tt no) no)
-          (well-cond (eqb k 4) _ _ tt (well-cond (eqb k 5) _ _ (well-cond (eqb b 0) _ _ tt no) no)))))
+    (well-cond (eqb k 2) _ _ (well-cond (eqb b 0) _ _ tt no)
+    (well-cond (eqb k 3) _ _ (well-cond (eqb a 0) _ _ (well-cond (eqb b 0) _ _ tt no) no)
+    (well-cond (eqb k 4) _ _ tt (well-cond (eqb k 5) _ _ (well-cond (eqb b 0) _ _ tt no) no)))))
     no
 
 -- the book's board after a call
@@ -118,15 +118,18 @@ module _ (z : Size) (W : Within z) where
   judged-fair s l q h c lt t (Ok w) n = go (eqb (memo-of s c .toggle) t)
     where
       go : (b : Bool) → Fair-reply s
-        (cond b (resent (memo-of s c .request) w (memo-of s c .answer), s) (noted s c t w (served z (s .lock) c w))) l q
-      go true = record
-        { safe = h; calm = λ k. k
-        ; never = λ k. resent-never (memo-of s c .request) w (memo-of s c .answer) (k c) }
-      go false = let g = served-good z W (s .lock) l q h c lt w in record
-        { safe = g .0
-        ; calm = λ k. calm-set (s .memos) c (record { toggle = t; request = Some w; answer = served z (s .lock) c w .0 })
-            k (g .1)
-        ; never = λ _. told-never (served z (s .lock) c w .0) (g .1) }
+          (cond b (resent (memo-of s c .request) w (memo-of s c .answer), s) (noted s c t w (served z (s .lock) c w))) l q
+      go true = record {
+        safe = h;
+        calm = λ k. k;
+        never = λ k. resent-never (memo-of s c .request) w (memo-of s c .answer) (k c);
+      }
+      go false = let g = served-good z W (s .lock) l q h c lt w in record {
+        safe = g .0;
+        calm = λ k. calm-set (s .memos) c (record { toggle = t; request = Some w; answer = served z (s .lock) c w .0 })
+            k (g .1);
+        never = λ _. told-never (served z (s .lock) c w .0) (g .1);
+      }
 
   -- a request
   asked-fair : (s : DoorState) (l : List Place) (q : List Sum) → Safe z (s .lock) l q
@@ -134,7 +137,7 @@ module _ (z : Size) (W : Within z) where
   asked-fair s l q h c t k a b = go (ltb c (z .cards)) refl
     where
       go : (x : Bool) → ltb c (z .cards) ≡ x
-        → Fair-reply s (cond x (judged z s c t (understood t k a b)) (Err (Lock NoCard), s)) l q
+          → Fair-reply s (cond x (judged z s c t (understood t k a b)) (Err (Lock NoCard), s)) l q
       go true e = judged-fair s l q h c (ltb-true c (z .cards) e) t (understood t k a b) (understood-well t k a b)
       go false e = record { safe = h; calm = λ k. k; never = λ _ x. omega arith }
 
@@ -146,22 +149,23 @@ module _ (z : Size) (W : Within z) where
     where
       h : Safe z (b .board .lock) (b .line) (b .finished)
       h = record { kept = I .kept; seated = I .seated; counted = I .counted }
+
       go : (k : Call) → Fair-reply (b .board) (called z (b .board) k) (after z b k .line) (after z b k .finished)
       go (call.Request c t k x y) = asked-fair (b .board) (b .line) (b .finished) h c t k x y
       go (call.Step c) = let d = step-deed z (b .board .lock) c in
-        passed-fair (b .board) (stepped z (b .board .lock) c) (lined c d (b .line)) (summed c d (b .finished))
+          passed-fair (b .board) (stepped z (b .board .lock) c) (lined c d (b .line)) (summed c d (b .finished))
           (step-keeps z W (b .board .lock) (b .line) (b .finished) h c)
       go (call.Abort c) = passed-fair (b .board) (aborted z (b .board .lock) c) (b .line) (b .finished)
-        (abort-keeps z W (b .board .lock) (b .line) (b .finished) h c)
+          (abort-keeps z W (b .board .lock) (b .line) (b .finished) h c)
       go (call.Reuse c n v) = passed-fair (b .board) (reused z (b .board .lock) c n v) (b .line) (b .finished)
-        (reuse-keeps z W (b .board .lock) (b .line) (b .finished) h c n v)
+          (reuse-keeps z W (b .board .lock) (b .line) (b .finished) h c n v)
 
   -- every call keeps the invariant
   pub keep : (b : Book) (k : Call) → Inv z b → Inv z (after z b k)
   keep b k I =
-    let h = subst (λ (s : DoorState). Safe z (s .lock) (after z b k .line) (after z b k .finished))
-          (sym (board-after z b k)) (call-fair b I k .safe) in
-    record { kept = h .kept; seated = h .seated; counted = h .counted }
+      let h = subst (λ (s : DoorState). Safe z (s .lock) (after z b k .line) (after z b k .finished))
+      (sym (board-after z b k)) (call-fair b I k .safe) in
+      record { kept = h .kept; seated = h .seated; counted = h .counted }
 
   -- the invariant, the two laws and calm memos
   pub record Whole (b : Book) : Type 0 where
@@ -171,35 +175,44 @@ module _ (z : Size) (W : Within z) where
 
   -- every call keeps them
   whole-after : (b : Book) (k : Call) → Whole b → Whole (after z b k)
-  whole-after b k I = record
-    { inv = keep b k (I .inv)
-    ; lawful = lawful-after z b (W .cards) (I .inv .kept .cards) (I .lawful) k
-    ; calm = subst (λ (s : DoorState). Calm (s .memos)) (sym (board-after z b k)) (call-fair b (I .inv) k .calm (I .calm)) }
+  whole-after b k I = record {
+    inv = keep b k (I .inv);
+    lawful = lawful-after z b (W .cards) (I .inv .kept .cards) (I .lawful) k;
+    calm = subst (λ (s : DoorState). Calm (s .memos)) (sym (board-after z b k)) (call-fair b (I .inv) k .calm (I .calm));
+  }
 
   -- a board newly set up has them
   whole-new : Whole new-book
   unfolding new-door
-  whole-new = record
-    { inv = record
-        { kept = record
-            { cells = refl; txs = refl; cards = refl
-            ; isolated = record
-                { agrees = λ c. subst (λ (x : Tx). Agrees (standing cleared) (stage-of new-lock c) x)
-                    (sym (all-same 8 c none)) (ap in-tx (idle-all c))
-                ; apart = λ c d a _ w. clash (has-written a (tx-of cleared c)) w
-                    (ap (has-written a) (all-same 8 c none)) }
-            ; line = new-line (standing cleared) (stage-of new-lock) refl idle-all
-            ; absent = λ c _. idle-all c
-            ; sound = λ c. subst (Sound (z .nodes) (z .counters)) (sym (idle-all c)) tt }
-        ; seated = tt
-        ; counted = record
-            { counts = λ k _. all-same 137 (counter-cell (z .nodes) k) 0
-            ; loaded = λ c n k a v e. clash (finishing (stage-of new-lock c)) (ap finishing e) (ap finishing (idle-all c)) } }
-    ; lawful = new-lawful
-    ; calm = calm-new 8 }
+  whole-new = record {
+    inv = record {
+      kept = record {
+        cells = refl;
+        txs = refl;
+        cards = refl;
+        isolated = record {
+          agrees = λ c. subst (λ (x : Tx). Agrees (standing cleared) (stage-of new-lock c) x)
+              (sym (all-same 8 c none)) (ap in-tx (idle-all c));
+          apart = λ c d a _ w. clash (has-written a (tx-of cleared c)) w
+              (ap (has-written a) (all-same 8 c none));
+        };
+        line = new-line (standing cleared) (stage-of new-lock) refl idle-all;
+        absent = λ c _. idle-all c;
+        sound = λ c. subst (Sound (z .nodes) (z .counters)) (sym (idle-all c)) tt;
+      };
+      seated = tt;
+      counted = record {
+        counts = λ k _. all-same 137 (counter-cell (z .nodes) k) 0;
+        loaded = λ c n k a v e. clash (finishing (stage-of new-lock c)) (ap finishing e) (ap finishing (idle-all c));
+      };
+    };
+    lawful = new-lawful;
+    calm = calm-new 8;
+  }
     where
       idle-all : (c : ℕ) → stage-of new-lock c ≡ Idle
       idle-all c = ap (λ (r : Card). r .stage) (all-same 8 c idle-card)
+
       calm-new : (n c : ℕ) → Fine (getD (replicate n new-memo) c no-memo .answer)
       calm-new zero c = tt
       calm-new (suc n) zero = tt

@@ -37,7 +37,7 @@ set-is {A} d xs i v h = fun-ext (λ a. go a (cases-eq a i))
   where
     go : (a : ℕ) → (a ≡ i) ⊎ (a ≡ i → ⊥) → getD (set xs i v) a d ≡ at (place d xs) i v a
     go a (inl e) = subst (λ (a : ℕ). getD (set xs i v) a d ≡ at (place d xs) i v a) (sym e)
-      (getD-set-same xs i v d h ∙ sym (at-same (place d xs) i v))
+        (getD-set-same xs i v d h ∙ sym (at-same (place d xs) i v))
     go a (inr n) = getD-set-other xs i a v d n ∙ sym (at-other (place d xs) i v a n)
 
 -- struck transactions, one by one
@@ -51,7 +51,7 @@ struck-at k a (x ∷ xs) (suc d) = struck-at k a xs d
 served-is : (k : Access) (c a : ℕ) (own : Tx) (m : Meaning) → c < length (m .txs)
     → tx-of (served k c a own m) ≡ at (λ d. struck k a (tx-of m d)) c own
 served-is k c a own m h = set-is none (map (struck k a) (m .txs)) c own (rw (length-map (m .txs) (struck k a)) h)
-  ∙ ap (λ (t : ℕ → Tx). at t c own) (fun-ext (struck-at k a (m .txs)))
+    ∙ ap (λ (t : ℕ → Tx). at t c own) (fun-ext (struck-at k a (m .txs)))
 
 -- there are as many transactions as before
 served-length : (k : Access) (c a : ℕ) (own : Tx) (m : Meaning) → length (served k c a own m .txs) ≡ length (m .txs)
@@ -73,8 +73,8 @@ landed-is : (ws : List Write) (cs : List ℕ) → length cs ≡ 137 → Below 13
     → place 0 (landed cs ws) ≡ lands ws (place 0 cs)
 landed-is [] cs e h = refl
 landed-is (w ∷ ws) cs e h =
-  landed-is ws (set cs (w .cell) (w .value)) (length-set cs (w .cell) (w .value) ∙ e) (h .1)
-  ∙ ap (lands ws) (set-is 0 cs (w .cell) (w .value) (rw e (h .0)))
+    landed-is ws (set cs (w .cell) (w .value)) (length-set cs (w .cell) (w .value) ∙ e) (h .1)
+    ∙ ap (lands ws) (set-is 0 cs (w .cell) (w .value) (rw e (h .0)))
 
 -- there are as many cells as before
 landed-length : (ws : List Write) (cs : List ℕ) → length (landed cs ws) ≡ length cs
@@ -98,89 +98,145 @@ module _ (m : Meaning) (hc : length (m .cells) ≡ 137) (ht : length (m .txs) �
 
   -- load
   same-load : (a : ℕ) (x : Tx) → Same (load-at m c a x) (load-seen c a (standing m) (tx-of m) x)
-  same-load a none = record
-    { cell = refl; tx = served-is Reads c a none m card; answer = refl; cells = hc
-    ; txs = served-length Reads c a none m ∙ ht }
+  same-load a none = record {
+    cell = refl;
+    tx = served-is Reads c a none m card;
+    answer = refl;
+    cells = hc;
+    txs = served-length Reads c a none m ∙ ht;
+  }
   same-load a (live r w) = record { cell = refl; tx = refl; answer = refl; cells = hc; txs = ht }
   same-load a doomed = record { cell = refl; tx = refl; answer = refl; cells = hc; txs = ht }
 
   -- store
   same-store : (a v : ℕ) → a < 137 → (x : Tx)
       → Same (as-zero (store-at m c a v x)) (store-seen c a v (standing m) (tx-of m) x)
-  same-store a v h none = record
-    { cell = set-is 0 (m .cells) a v (rw hc h); tx = served-is Writes c a none m card; answer = refl
-    ; cells = length-set (m .cells) a v ∙ hc; txs = served-length Writes c a none m ∙ ht }
+  same-store a v h none = record {
+    cell = set-is 0 (m .cells) a v (rw hc h);
+    tx = served-is Writes c a none m card;
+    answer = refl;
+    cells = length-set (m .cells) a v ∙ hc;
+    txs = served-length Writes c a none m ∙ ht;
+  }
   same-store a v h (live r w) = record { cell = refl; tx = refl; answer = refl; cells = hc; txs = ht }
   same-store a v h doomed = record { cell = refl; tx = refl; answer = refl; cells = hc; txs = ht }
 
   -- begin
   same-begin : (x : Tx) → Same (as-zero (begin-at m c x)) (begin-seen c (standing m) (tx-of m) x)
-  same-begin none = record
-    { cell = refl; tx = set-is none (m .txs) c (live [] []) card; answer = refl; cells = hc
-    ; txs = length-set (m .txs) c (live [] []) ∙ ht }
+  same-begin none = record {
+    cell = refl;
+    tx = set-is none (m .txs) c (live [] []) card;
+    answer = refl;
+    cells = hc;
+    txs = length-set (m .txs) c (live [] []) ∙ ht;
+  }
   same-begin (live r w) = record { cell = refl; tx = refl; answer = refl; cells = hc; txs = ht }
   same-begin doomed = record { cell = refl; tx = refl; answer = refl; cells = hc; txs = ht }
 
   -- read, by the marks after it, by the transaction's own write, and whole
   same-mark : (a : ℕ) (w : List Write) (r : Option (List ℕ))
       → Same (read-marking m c a w r) (mark-seen c a (standing m) (tx-of m) w r)
-  same-mark a w (Some r) = record
-    { cell = refl; tx = served-is Reads c a (live r w) m card; answer = refl; cells = hc
-    ; txs = served-length Reads c a (live r w) m ∙ ht }
-  same-mark a w None = record
-    { cell = refl; tx = set-is none (m .txs) c none card; answer = refl; cells = hc
-    ; txs = length-set (m .txs) c none ∙ ht }
+  same-mark a w (Some r) = record {
+    cell = refl;
+    tx = served-is Reads c a (live r w) m card;
+    answer = refl;
+    cells = hc;
+    txs = served-length Reads c a (live r w) m ∙ ht;
+  }
+  same-mark a w None = record {
+    cell = refl;
+    tx = set-is none (m .txs) c none card;
+    answer = refl;
+    cells = hc;
+    txs = length-set (m .txs) c none ∙ ht;
+  }
 
   same-value : (a : ℕ) (r : List ℕ) (w : List Write) (v : Option ℕ)
       → Same (read-open m c a r w v) (value-seen c a (standing m) (tx-of m) r w v)
-  same-value a r w (Some v) = record
-    { cell = refl; tx = served-is Reads c a (live r w) m card; answer = refl; cells = hc
-    ; txs = served-length Reads c a (live r w) m ∙ ht }
+  same-value a r w (Some v) = record {
+    cell = refl;
+    tx = served-is Reads c a (live r w) m card;
+    answer = refl;
+    cells = hc;
+    txs = served-length Reads c a (live r w) m ∙ ht;
+  }
   same-value a r w None = same-mark a w (marking r a)
 
   same-read : (a : ℕ) (x : Tx) → Same (read-at m c a x) (read-seen c a (standing m) (tx-of m) x)
   same-read a none = record { cell = refl; tx = refl; answer = refl; cells = hc; txs = ht }
   same-read a (live r w) = same-value a r w (value-in w a)
-  same-read a doomed = record
-    { cell = refl; tx = set-is none (m .txs) c none card; answer = refl; cells = hc
-    ; txs = length-set (m .txs) c none ∙ ht }
+  same-read a doomed = record {
+    cell = refl;
+    tx = set-is none (m .txs) c none card;
+    answer = refl;
+    cells = hc;
+    txs = length-set (m .txs) c none ∙ ht;
+  }
 
   -- write, by the writes after it, and whole
   same-record : (a : ℕ) (r : List ℕ) (w : Option (List Write))
       → Same (as-zero (write-open m c a r w)) (record-seen c a (standing m) (tx-of m) r w)
-  same-record a r (Some w) = record
-    { cell = refl; tx = served-is Writes c a (live r w) m card; answer = refl; cells = hc
-    ; txs = served-length Writes c a (live r w) m ∙ ht }
-  same-record a r None = record
-    { cell = refl; tx = set-is none (m .txs) c none card; answer = refl; cells = hc
-    ; txs = length-set (m .txs) c none ∙ ht }
+  same-record a r (Some w) = record {
+    cell = refl;
+    tx = served-is Writes c a (live r w) m card;
+    answer = refl;
+    cells = hc;
+    txs = served-length Writes c a (live r w) m ∙ ht;
+  }
+  same-record a r None = record {
+    cell = refl;
+    tx = set-is none (m .txs) c none card;
+    answer = refl;
+    cells = hc;
+    txs = length-set (m .txs) c none ∙ ht;
+  }
 
   same-write : (a v : ℕ) (x : Tx) → Same (as-zero (write-at m c a v x)) (write-seen c a v (standing m) (tx-of m) x)
   same-write a v none = record { cell = refl; tx = refl; answer = refl; cells = hc; txs = ht }
   same-write a v (live r w) = same-record a r (recording w a v)
-  same-write a v doomed = record
-    { cell = refl; tx = set-is none (m .txs) c none card; answer = refl; cells = hc
-    ; txs = length-set (m .txs) c none ∙ ht }
+  same-write a v doomed = record {
+    cell = refl;
+    tx = set-is none (m .txs) c none card;
+    answer = refl;
+    cells = hc;
+    txs = length-set (m .txs) c none ∙ ht;
+  }
 
   -- commit
   same-commit : (x : Tx) → Recorded x → Same (as-zero (commit-at m c x)) (commit-seen c (standing m) (tx-of m) x)
   same-commit none h = record { cell = refl; tx = refl; answer = refl; cells = hc; txs = ht }
-  same-commit (live r w) h = record
-    { cell = landed-is w (m .cells) hc h; tx = set-is none (m .txs) c none card; answer = refl
-    ; cells = landed-length w (m .cells) ∙ hc; txs = length-set (m .txs) c none ∙ ht }
-  same-commit doomed h = record
-    { cell = refl; tx = set-is none (m .txs) c none card; answer = refl; cells = hc
-    ; txs = length-set (m .txs) c none ∙ ht }
+  same-commit (live r w) h = record {
+    cell = landed-is w (m .cells) hc h;
+    tx = set-is none (m .txs) c none card;
+    answer = refl;
+    cells = landed-length w (m .cells) ∙ hc;
+    txs = length-set (m .txs) c none ∙ ht;
+  }
+  same-commit doomed h = record {
+    cell = refl;
+    tx = set-is none (m .txs) c none card;
+    answer = refl;
+    cells = hc;
+    txs = length-set (m .txs) c none ∙ ht;
+  }
 
   -- drop
   same-drop : (x : Tx) → Same (as-zero (drop-at m c x)) (drop-seen c (standing m) (tx-of m) x)
   same-drop none = record { cell = refl; tx = refl; answer = refl; cells = hc; txs = ht }
-  same-drop (live r w) = record
-    { cell = refl; tx = set-is none (m .txs) c none card; answer = refl; cells = hc
-    ; txs = length-set (m .txs) c none ∙ ht }
-  same-drop doomed = record
-    { cell = refl; tx = set-is none (m .txs) c none card; answer = refl; cells = hc
-    ; txs = length-set (m .txs) c none ∙ ht }
+  same-drop (live r w) = record {
+    cell = refl;
+    tx = set-is none (m .txs) c none card;
+    answer = refl;
+    cells = hc;
+    txs = length-set (m .txs) c none ∙ ht;
+  }
+  same-drop doomed = record {
+    cell = refl;
+    tx = set-is none (m .txs) c none card;
+    answer = refl;
+    cells = hc;
+    txs = length-set (m .txs) c none ∙ ht;
+  }
 
 -- a call of card c, on a cell that there is
 abbrev pub Ranged : ℕ → MemoryCall → Type 0
@@ -201,14 +257,14 @@ unfolding performed
 bridge m hc ht c lc call.Clear r w = absurd r
 bridge m hc ht c lc (call.Look a) r w = absurd r
 bridge m hc ht c lc (call.Load d a) r w =
-  rw (r .0, lt-ltb c 8 lc, lt-ltb a 137 (r .1)) (same-load m hc ht c lc a (tx-of m c))
+    rw (r .0, lt-ltb c 8 lc, lt-ltb a 137 (r .1)) (same-load m hc ht c lc a (tx-of m c))
 bridge m hc ht c lc (call.Store d a v) r w =
-  rw (r .0, lt-ltb c 8 lc, lt-ltb a 137 (r .1)) (same-store m hc ht c lc a v (r .1) (tx-of m c))
+    rw (r .0, lt-ltb c 8 lc, lt-ltb a 137 (r .1)) (same-store m hc ht c lc a v (r .1) (tx-of m c))
 bridge m hc ht c lc (call.Begin d) r w = rw (r, lt-ltb c 8 lc) (same-begin m hc ht c lc (tx-of m c))
 bridge m hc ht c lc (call.Read d a) r w =
-  rw (r .0, lt-ltb c 8 lc, lt-ltb a 137 (r .1)) (same-read m hc ht c lc a (tx-of m c))
+    rw (r .0, lt-ltb c 8 lc, lt-ltb a 137 (r .1)) (same-read m hc ht c lc a (tx-of m c))
 bridge m hc ht c lc (call.Write d a v) r w =
-  rw (r .0, lt-ltb c 8 lc, lt-ltb a 137 (r .1)) (same-write m hc ht c lc a v (tx-of m c))
+    rw (r .0, lt-ltb c 8 lc, lt-ltb a 137 (r .1)) (same-write m hc ht c lc a v (tx-of m c))
 bridge m hc ht c lc (call.Commit d) r w = rw (r, lt-ltb c 8 lc) (same-commit m hc ht c lc (tx-of m c) w)
 bridge m hc ht c lc (call.Drop d) r w = rw (r, lt-ltb c 8 lc) (same-drop m hc ht c lc (tx-of m c))
 
@@ -219,7 +275,7 @@ staged-is s m c g e h = fun-ext (λ d. ap (λ (f : ℕ → Card). f d .stage)
     (set-is idle-card (s .cards) c (record { stage = g }) (rw e h)) ∙ inner d (cases-eq d c))
   where
     inner : (d : ℕ) → (d ≡ c) ⊎ (d ≡ c → ⊥)
-      → at (place idle-card (s .cards)) c (record { stage = g }) d .stage ≡ at (stage-of s) c g d
+        → at (place idle-card (s .cards)) c (record { stage = g }) d .stage ≡ at (stage-of s) c g d
     inner d (inl p) = rw (eq-eqb d c p)
     inner d (inr p) = rw (ne-eqb d c p)
 

@@ -219,7 +219,7 @@ keeps-goes N c f (ReaderEnters n R11) v g = tt
 keeps-goes N c f (ReaderEnters n (R12 zero)) v g = tt
 keeps-goes N c f (ReaderEnters n (R12 (suc m))) v g = tt
 keeps-goes N c f (ReaderEnters n (R13 q)) v g =
-  keeps-cond N f (eqb v reader) (ReaderEnters n (R14 q), answer.Step) (Inside n mode.Read, answer.In) tt tt
+    keeps-cond N f (eqb v reader) (ReaderEnters n (R14 q), answer.Step) (Inside n mode.Read, answer.In) tt tt
 keeps-goes N c f (ReaderEnters n (R14 q)) v g = tt
 keeps-goes N c f (Inside n m) v g = tt
 keeps-goes N c f (WriterLeaves n X1) v g = tt
@@ -239,7 +239,7 @@ keeps-goes N c f (ReaderLeaves n (Y5 (suc m) (suc k))) v g = tt
 keeps-goes N c f (ReaderLeaves n (Y6 p q)) v g = tt
 keeps-goes N c f (ReaderLeaves n (Y7 p zero s)) v g = tt
 keeps-goes N c f (ReaderLeaves n (Y7 zero (suc k) s)) v g =
-  keeps-cond N f (eqb s writer) (ReaderLeaves n (Y8 (suc k)), answer.Step) (Idle, answer.Out) tt tt
+    keeps-cond N f (eqb s writer) (ReaderLeaves n (Y8 (suc k)), answer.Step) (Idle, answer.Out) tt tt
 keeps-goes N c f (ReaderLeaves n (Y7 (suc m) (suc k) s)) v g = tt
 keeps-goes N c f (ReaderLeaves n (Y8 q)) v g = tt
 keeps-goes N c f (Adds n (A1 k x)) v g = g (counter-cell N k) refl
@@ -249,8 +249,8 @@ keeps-goes N c f (Adds n (A2 k x y)) v g = tt
 lands-above : (b : ℕ) (w : List Write) → Below b w → (f : ℕ → ℕ) (a : ℕ) → b ≤ a → lands w f a ≡ f a
 lands-above b [] h f a l = refl
 lands-above b (e ∷ w) h f a l =
-  lands-above b w (h .1) (at f (e .cell) (e .value)) a l
-  ∙ at-other f (e .cell) (e .value) a (λ q. let i = h .0 in omega arith)
+    lands-above b w (h .1) (at f (e .cell) (e .value)) a l
+    ∙ at-other f (e .cell) (e .value) a (λ q. let i = h .0 in omega arith)
 
 -- no standing value changes by a read
 value-cell : (c a : ℕ) (f : ℕ → ℕ) (t : ℕ → Tx) (r : List ℕ) (w : List Write) (o : Option ℕ)
@@ -284,11 +284,11 @@ stays-above c b f t s (call.Begin d) (live m w) r h p q a l = refl
 stays-above c b f t s (call.Begin d) doomed r h p q a l = refl
 stays-above c b f t s (call.Read d y) none r h p q a l = refl
 stays-above c b f t s (call.Read d y) (live m w) r h p q a l =
-  ap (λ (g : ℕ → ℕ). g a) (value-cell d y f t m w (value-in w y))
+    ap (λ (g : ℕ → ℕ). g a) (value-cell d y f t m w (value-in w y))
 stays-above c b f t s (call.Read d y) doomed r h p q a l = refl
 stays-above c b f t s (call.Write d y v) none r h p q a l = refl
 stays-above c b f t s (call.Write d y v) (live m w) r h p q a l =
-  ap (λ (g : ℕ → ℕ). g a) (record-cell d y f t m (recording w y v))
+    ap (λ (g : ℕ → ℕ). g a) (record-cell d y f t m (recording w y v))
 stays-above c b f t s (call.Write d y v) doomed r h p q a l = refl
 stays-above c b f t s (call.Commit d) none r h p q a l = refl
 stays-above c b f t s (call.Commit d) (live m w) r h p q a l = lands-above b w (rw (h .2) p) f a l
@@ -314,7 +314,7 @@ holds-first : (f : ℕ → ℕ) (V : ℕ → View) (d : ℕ) (l : List ℕ) → 
     → views.reader (V c) ≡ false → granted f (V c) ≡ true → c ≡ d
 holds-first f V d l h c (inl e) r g = e
 holds-first f V d l h c (inr i) r g =
-  let w = chain-pred f V l d (h .0 .in-line) (h .1) c i in absurd (joined-link (V (w .0)) (w .1) (w .2 .turnw r g))
+    let w = chain-pred f V l d (h .0 .in-line) (h .1) c i in absurd (joined-link (V (w .0)) (w .1) (w .2 .turnw r g))
 
 -- so two of them are one
 pub one-holds : (f : ℕ → ℕ) (V : ℕ → View) (l : List ℕ) → Line f V l
@@ -324,8 +324,8 @@ one-holds f V l L c d n m e h = go l (L .chain) (L .members c (ap joined e)) (L 
     go : (l : List ℕ) → Chain f V 0 l → In c l → In d l → d ≡ c
     go [] k i j = absurd i
     go (x ∷ l) k i j =
-      holds-first f V x l k d j (ap views.reader h) (ap (granted f) h)
-      ∙ sym (holds-first f V x l k c i (ap views.reader e) (ap (granted f) e))
+        holds-first f V x l k d j (ap views.reader h) (ap (granted f) h)
+        ∙ sym (holds-first f V x l k c i (ap views.reader e) (ap (granted f) e))
 
 -- the sum with one more add
 total-push : (k : ℕ) (l : List Sum) (s : Sum)
@@ -338,23 +338,25 @@ total-push k (x ∷ l) s = let ih = total-push k l s in omega arith
 -- the counters stay where their cells do
 pub counted-cells : (z : Size) (f g : ℕ → ℕ) (S : ℕ → Stage) (l : List Sum)
     → ((j : ℕ) → g (counter-cell (z .nodes) j) ≡ f (counter-cell (z .nodes) j)) → Counted z f S l → Counted z g S l
-counted-cells z f g S l e J = record
-  { counts = λ j lt. e j ∙ J .counts j lt
-  ; loaded = λ c n k a v q. J .loaded c n k a v q ∙ sym (e k) }
+counted-cells z f g S l e J = record {
+  counts = λ j lt. e j ∙ J .counts j lt;
+  loaded = λ c n k a v q. J .loaded c n k a v q ∙ sym (e k);
+}
 
 -- a store to the tail or to a cell of a node
 pub counted-store : (z : Size) (f : ℕ → ℕ) (S : ℕ → Stage) (l : List Sum) (a v : ℕ) → a < 1 + 4 * z .nodes
     → Counted z f S l → Counted z (at f a v) S l
 counted-store z f S l a v h J =
-  counted-cells z f (at f a v) S l (λ j. at-other f a v (counter-cell (z .nodes) j) (λ q. omega arith)) J
+    counted-cells z f (at f a v) S l (λ j. at-other f a v (counter-cell (z .nodes) j) (λ q. omega arith)) J
 
 -- a stage that is not about to store an add
 pub counted-stage : (z : Size) (f : ℕ → ℕ) (S : ℕ → Stage) (l : List Sum) (c : ℕ) (s : Stage) → finishing s ≡ false
     → Counted z f S l → Counted z f (at S c s) l
-counted-stage z f S l c s h J = record
-  { counts = J .counts
-  ; loaded = at-all (λ (d : ℕ) (s : Stage). Loads (z .nodes) f s) S c s
-      (loaded-keeps (z .nodes) f s (calm-keeps (z .nodes) f s h)) (λ d _. J .loaded d) }
+counted-stage z f S l c s h J = record {
+  counts = J .counts;
+  loaded = at-all (λ (d : ℕ) (s : Stage). Loads (z .nodes) f s) S c s
+      (loaded-keeps (z .nodes) f s (calm-keeps (z .nodes) f s h)) (λ d _. J .loaded d);
+}
 
 -- A step of card c.
 
@@ -385,13 +387,13 @@ module _ (z : Size) (f : ℕ → ℕ) (t : ℕ → Tx) (S : ℕ → Stage) (ls :
   -- what is to be shown of an outcome
   abbrev Counts-on : model.Out → Type 0
   Counts-on o = Counted z (o .cell) (at S c (advanced (S c) (o .answer) .0))
-    (summed c (cond (accepted (o .answer)) (deed (S c)) plain) l)
+      (summed c (cond (accepted (o .answer)) (deed (S c)) plain) l)
 
   -- the card is not about to store an add: the counters stay
   others-stay : finishing (S c) ≡ false → (j : ℕ) → o .cell (counter-cell N j) ≡ f (counter-cell N j)
   others-stay p j = stays-above c (1 + 4 * N) f t (S c) k (t c)
-    (row N (z .counters) c (S c) (sound c) k e) h (writes-below N (z .counters) (S c) (sound c))
-    (subst (Low (1 + 4 * N)) e (calm-row N (z .counters) c (S c) (sound c) p .1)) (counter-cell N j) (omega arith)
+      (row N (z .counters) c (S c) (sound c) k e) h (writes-below N (z .counters) (S c) (sound c))
+      (subst (Low (1 + 4 * N)) e (calm-row N (z .counters) c (S c) (sound c) p .1)) (counter-cell N j) (omega arith)
 
   -- and no add is finished
   same-sums : finishing (S c) ≡ false → (b : Bool) → summed c (cond b (deed (S c)) plain) l ≡ l
@@ -413,19 +415,21 @@ module _ (z : Size) (f : ℕ → ℕ) (t : ℕ → Tx) (S : ℕ → Stage) (ls :
     where
       got : (v : ℕ) → o .answer ≡ Ok v → (a : ℕ) → call-of N c (S c) ≡ Some (call.Load c a) → v ≡ o .cell a
       got v q a y = subst (λ (k : MemoryCall). seen c k f t .answer ≡ Ok v → v ≡ seen c k f t .cell a)
-        (one-call (call.Load c a) k (call-of N c (S c)) y e) (load-stands c a v f t (t c)) q
+          (one-call (call.Load c a) k (call-of N c (S c)) y e) (load-stands c a v f t (t c)) q
+
       go : (r : Result ℕ MemoryFault) → o .answer ≡ r → Keeps N (o .cell) (advanced (S c) r .0)
       go (Ok v) q = keeps-goes N c (o .cell) (S c) v (got v q)
       go (Err x) q = keeps-refused p (o .cell) x (x .refusal)
 
   -- any step but the store of an add
   calm-counted : finishing (S c) ≡ false → Counts-on o
-  calm-counted p = record
-    { counts = λ j lt. others-stay p j ∙ J .counts j lt
-        ∙ ap (λ (l : List Sum). min 65535 (total j l)) (sym (same-sums p (accepted (o .answer))))
-    ; loaded = at-all (λ (d : ℕ) (s : Stage). Loads N (o .cell) s) S c later
+  calm-counted p = record {
+    counts = λ j lt. others-stay p j ∙ J .counts j lt
+        ∙ ap (λ (l : List Sum). min 65535 (total j l)) (sym (same-sums p (accepted (o .answer))));
+    loaded = at-all (λ (d : ℕ) (s : Stage). Loads N (o .cell) s) S c later
         (loaded-keeps N (o .cell) later (keeps-later p))
-        (λ d _ n j a v q. J .loaded d n j a v q ∙ sym (others-stay p j)) }
+        (λ d _ n j a v q. J .loaded d n j a v q ∙ sym (others-stay p j));
+  }
 
   -- the standing values after the store of an add of a to counter j, which stood at v
   abbrev stored : ℕ → ℕ → ℕ → ℕ → ℕ
@@ -435,40 +439,41 @@ module _ (z : Size) (f : ℕ → ℕ) (t : ℕ → Tx) (S : ℕ → Stage) (ls :
   count-stored : (n j a v : ℕ) → S c ≡ Adds n (A2 j a v) → (i : ℕ) → i < z .counters → (i ≡ j) ⊎ (i ≡ j → ⊥)
       → stored j a v (counter-cell N i) ≡ min 65535 (total i l + cond (eqb j i) a 0)
   count-stored n j a v q i lt (inl y) =
-    subst (λ (i : ℕ). i < z .counters → stored j a v (counter-cell N i) ≡ min 65535 (total i l + cond (eqb j i) a 0))
+      subst (λ (i : ℕ). i < z .counters → stored j a v (counter-cell N i) ≡ min 65535 (total i l + cond (eqb j i) a 0))
       (sym y)
       (λ lj. rw (eq-eqb j j refl, at-same f (counter-cell N j) (capped v a))
-        (capped-more v (total j l) a (J .loaded c n j a v q ∙ J .counts j lj))) lt
+      (capped-more v (total j l) a (J .loaded c n j a v q ∙ J .counts j lj))) lt
   count-stored n j a v q i lt (inr y) =
-    at-other f (counter-cell N j) (capped v a) (counter-cell N i) (λ p. y (omega arith)) ∙ J .counts i lt
-    ∙ rw (ne-eqb j i (λ p. y (sym p))) (omega arith)
+      at-other f (counter-cell N j) (capped v a) (counter-cell N i) (λ p. y (omega arith)) ∙ J .counts i lt
+      ∙ rw (ne-eqb j i (λ p. y (sym p))) (omega arith)
 
   -- no other card is in the middle of an add
   add-stored : (n j a v : ℕ) → S c ≡ Adds n (A2 j a v)
       → Counted z (stored j a v) (at S c (Inside n mode.Write))
-          (l ++ record { card = c; counter = j; amount = a } ∷ [])
-  add-stored n j a v q = record
-    { counts = λ i lt. count-stored n j a v q i lt (cases-eq i j)
-        ∙ ap (min 65535) (sym (total-push i l (record { card = c; counter = j; amount = a })))
-    ; loaded = at-all (λ (d : ℕ) (s : Stage). Loads N (stored j a v) s) S c (Inside n mode.Write)
+      (l ++ record { card = c; counter = j; amount = a } ∷ [])
+  add-stored n j a v q = record {
+    counts = λ i lt. count-stored n j a v q i lt (cases-eq i j)
+        ∙ ap (min 65535) (sym (total-push i l (record { card = c; counter = j; amount = a })));
+    loaded = at-all (λ (d : ℕ) (s : Stage). Loads N (stored j a v) s) S c (Inside n mode.Write)
         (loaded-keeps N (stored j a v) (Inside n mode.Write) tt)
-        (λ d nd m i x y r. absurd (nd (one-holds f (λ d. view (S d)) ls L c d n m (ap view q) (ap view r)))) }
+        (λ d nd m i x y r. absurd (nd (one-holds f (λ d. view (S d)) ls L c d n m (ap view q) (ap view r))));
+  }
 
   -- the store of an add
   add-counted : (n j a v : ℕ) → S c ≡ Adds n (A2 j a v) → Counts-on o
   add-counted n j a v q = subst Counts-on (sym outcome)
-    (subst (λ (s : Stage). Counted z (stored j a v) (at S c (goes s 0 .0)) (summed c (deed s) l)) (sym q)
+      (subst (λ (s : Stage). Counted z (stored j a v) (at S c (goes s 0 .0)) (summed c (deed s) l)) (sym q)
       (add-stored n j a v q))
     where
       outcome : o ≡ model.store-seen c (counter-cell N j) (capped v a) f t none
       outcome =
-        ap (λ (k : MemoryCall). seen c k f t)
+          ap (λ (k : MemoryCall). seen c k f t)
           (one-call k (call.Store c (counter-cell N j) (capped v a)) (call-of N c (S c)) e (ap (call-of N c) q))
-        ∙ ap (model.store-seen c (counter-cell N j) (capped v a) f t) (outside f (S c) (t c) (ap in-tx q) h)
+          ∙ ap (model.store-seen c (counter-cell N j) (capped v a) f t) (outside f (S c) (t c) (ap in-tx q) h)
 
   -- a step of card c keeps the counters
   pub step-counted : Counted z (seen c k f t .cell) (at S c (advanced (S c) (seen c k f t .answer) .0))
       (summed c (cond (accepted (seen c k f t .answer)) (deed (S c)) plain) l)
   step-counted = ⊎-elim
-    (λ p. let w = finishing-is (S c) p in add-counted (w .0) (w .1) (w .2) (w .3) (w .4))
-    calm-counted (cases-bool (finishing (S c)))
+      (λ p. let w = finishing-is (S c) p in add-counted (w .0) (w .1) (w .2) (w .3) (w .4))
+      calm-counted (cases-bool (finishing (S c)))

@@ -31,7 +31,7 @@ use Rattle.board.proofs.Effects.{Unheld, field-cell}
 pub line-same : (f : ℕ → ℕ) (S : ℕ → Stage) (l : List ℕ) (c : ℕ) (s : Stage) → view s ≡ view (S c)
     → Line f (views S) l → Line f (views (at S c s)) l
 line-same f S l c s e L = subst (λ (W : ℕ → View). Line f W l)
-  (sym (fun-ext (at-all (λ (d : ℕ) (x : Stage). view x ≡ view (S d)) S c s e (λ d _. refl)))) L
+    (sym (fun-ext (at-all (λ (d : ℕ) (x : Stage). view x ≡ view (S d)) S c s e (λ d _. refl)))) L
 
 -- a lost or aborted transaction
 pub line-begin : (f : ℕ → ℕ) (S : ℕ → Stage) (l : List ℕ) (c : ℕ)
@@ -59,9 +59,12 @@ store-line f V l n a v w u L = frame-line f (at f a v) V l (at-other f a v 0 (le
   where
     kept : (d : ℕ) → link (V d) ≡ suc (node (V d)) → Same-node f (at f a v) (node (V d))
     kept d q = let ne : node (V d) ≡ n → ⊥ = λ z. u d (q ∙ ap suc z) in let h = w .0 in let k = w .1 in
-      let m = node (V d) in
-      ( at-other f a v (next m) (λ z. ne (omega arith)), at-other f a v (prev m) (λ z. ne (omega arith))
-      , at-other f a v (state m) (λ z. ne (omega arith)), at-other f a v (spin m) (λ z. ne (omega arith)) )
+        let m = node (V d) in (
+          at-other f a v (next m) (λ z. ne (omega arith)),
+          at-other f a v (prev m) (λ z. ne (omega arith)),
+          at-other f a v (state m) (λ z. ne (omega arith)),
+          at-other f a v (spin m) (λ z. ne (omega arith)),
+        )
 
 -- the standing values after stores in turn
 abbrev pub stored : List (ℕ × ℕ) → (ℕ → ℕ) → ℕ → ℕ
@@ -77,14 +80,14 @@ pub stored-line : (f : ℕ → ℕ) (V : ℕ → View) (l : List ℕ) (n : ℕ) 
     → Line f V l → Line (stored ws f) V l
 stored-line f V l n [] h u L = L
 stored-line f V l n (w ∷ ws) h u L =
-  stored-line (at f (w .0) (w .1)) V l n ws (h .1) u (store-line f V l n (w .0) (w .1) (h .0) u L)
+    stored-line (at f (w .0) (w .1)) V l n ws (h .1) u (store-line f V l n (w .0) (w .1) (h .0) u L)
 
 -- they change no cell of another node, nor the tail or a counter
 pub stored-other : (f : ℕ → ℕ) (n a : ℕ) (ws : List (ℕ × ℕ)) → All-within n ws → (Within n a → ⊥)
     → stored ws f a ≡ f a
 stored-other f n a [] h o = refl
 stored-other f n a (w ∷ ws) h o = stored-other (at f (w .0) (w .1)) n a ws (h .1) o
-  ∙ at-other f (w .0) (w .1) a (λ e. o (subst (Within n) (sym e) (h .0)))
+    ∙ at-other f (w .0) (w .1) a (λ e. o (subst (Within n) (sym e) (h .0)))
 
 -- the stores of an enter and of a reuse
 pub entry-within : (n : ℕ) (m : Mode) → All-within n (entry-stores n m)
@@ -107,10 +110,10 @@ comes n Write = (refl, refl, refl)
 -- a card takes a node that no card has
 pub nodes-come : (V : ℕ → View) (c n : ℕ) (u : View) → link u ≡ suc n → Unheld V n → Nodes V → Nodes (at V c u)
 nodes-come V c n u e free N x y = at-all
-  (λ (x : ℕ) (z : View). link z ≡ link (at V c u y) → (x ≡ y) ⊎ (link z ≡ 0)) V c u
-  (at-all (λ (y : ℕ) (w : View). link u ≡ link w → (c ≡ y) ⊎ (link u ≡ 0)) V c u
+    (λ (x : ℕ) (z : View). link z ≡ link (at V c u y) → (x ≡ y) ⊎ (link z ≡ 0)) V c u
+    (at-all (λ (y : ℕ) (w : View). link u ≡ link w → (c ≡ y) ⊎ (link u ≡ 0)) V c u
     (λ _. inl refl) (λ y _ q. absurd (free y (sym q ∙ e))) y)
-  (λ x _. at-all (λ (y : ℕ) (w : View). link (V x) ≡ link w → (x ≡ y) ⊎ (link (V x) ≡ 0)) V c u
+    (λ x _. at-all (λ (y : ℕ) (w : View). link (V x) ≡ link w → (x ≡ y) ⊎ (link (V x) ≡ 0)) V c u
     (λ q. absurd (free x (q ∙ e))) (λ y _. N x y) y) x
 
 -- an idle card comes with a node that no card has, whose cells stand as entered
@@ -118,25 +121,27 @@ pub come-line : (f : ℕ → ℕ) (S : ℕ → Stage) (l : List ℕ) (c n : ℕ)
     → Cells f (view (first-stage n m)) → Line f (views S) l → Line f (views (at S c (first-stage n m))) l
 come-line f S l c n m idle free k L = let u = view (first-stage n m) in let C = comes n m in
     subst (λ (W : ℕ → View). Line f W l) (sym (view-at S c (first-stage n m)))
-      (like-line f f (views S) (at (views S) c u) l
-        (at-all (λ (d : ℕ) (z : View). Like f f (view (S d)) z) (views S) c u like (λ d _. like-refl f (view (S d))))
-        refl (nodes-come (views S) c n u (C .0) free (L .nodes))
-        (at-all (λ (d : ℕ) (z : View). Cells f z) (views S) c u k (λ d _. L .cells d)) L)
+    (like-line f f (views S) (at (views S) c u) l
+    (at-all (λ (d : ℕ) (z : View). Like f f (view (S d)) z) (views S) c u like (λ d _. like-refl f (view (S d))))
+    refl (nodes-come (views S) c n u (C .0) free (L .nodes))
+    (at-all (λ (d : ℕ) (z : View). Cells f z) (views S) c u k (λ d _. L .cells d)) L)
   where
     out : joined (view (S c)) ≡ false
     out = ap (λ (s : Stage). joined (view s)) idle
+
     like : Like f f (view (S c)) (view (first-stage n m))
-    like = record
-      { holds = comes n m .2 ∙ sym (ap (λ (s : Stage). hand (view s)) idle)
-      ; joins = comes n m .1 ∙ sym out
-      ; seat = λ j. clash (joined (view (S c))) j out
-      ; front = λ j. clash (joined (view (S c))) j out }
+    like = record {
+      holds = comes n m .2 ∙ sym (ap (λ (s : Stage). hand (view s)) idle);
+      joins = comes n m .1 ∙ sym out;
+      seat = λ j. clash (joined (view (S c))) j out;
+      front = λ j. clash (joined (view (S c))) j out;
+    }
 
 -- an idle card enters with a free node: its stores, and its first stage
 pub enter-line : (f : ℕ → ℕ) (S : ℕ → Stage) (l : List ℕ) (c n : ℕ) (m : Mode) → S c ≡ Idle → Unheld (views S) n
     → Line f (views S) l → Line (stored (entry-stores n m) f) (views (at S c (first-stage n m))) l
 enter-line f S l c n m idle free L = come-line (stored (entry-stores n m) f) S l c n m idle free (entry-cells f n m)
-  (stored-line f (views S) l n (entry-stores n m) (entry-within n m) free L)
+    (stored-line f (views S) l n (entry-stores n m) (entry-within n m) free L)
 
 -- an idle card stores into a free node
 pub reuse-line : (f : ℕ → ℕ) (S : ℕ → Stage) (l : List ℕ) (n : ℕ) (v : NodeValues) → Unheld (views S) n
@@ -152,28 +157,33 @@ enter-unheld f S c n m k u x =
   where
     mine : n ≡ k → link (view (at S c (first-stage n m) c)) ≡ suc k
     mine e = ap (λ (s : Stage). link (view s)) (at-same S c (first-stage n m)) ∙ comes n m .0 ∙ ap suc e
+
     outside : Within n (node-cell k x) → ⊥
     outside w = let b = field-cell k x in let p = w .0 in let q = w .1 in let r = b .0 in let s = b .1 in
-      let e : n ≡ k = omega arith in u c (mine e)
+        let e : n ≡ k = omega arith in u c (mine e)
 
 -- stores into one of N nodes change no counter
 pub stored-counter : (f : ℕ → ℕ) (N n j : ℕ) (ws : List (ℕ × ℕ)) → n < N → All-within n ws
     → stored ws f (counter-cell N j) ≡ f (counter-cell N j)
 stored-counter f N n j ws lt h =
-  stored-other f n (counter-cell N j) ws h (λ w. let q = w .1 in omega arith)
+    stored-other f n (counter-cell N j) ws h (λ w. let q = w .1 in omega arith)
 
 -- nobody is in line on a new board
 pub new-line : (f : ℕ → ℕ) (S : ℕ → Stage) → f 0 ≡ 0 → ((d : ℕ) → S d ≡ Idle) → Line f (views S) []
-new-line f S z idle = subst (λ (W : ℕ → View). Line f W []) (sym (fun-ext (λ d. ap view (idle d)))) (record
-  { nodes = λ c d e. inr refl; cells = λ c. tt; members = λ c j. clash false j refl; once = tt
-  ; chain = record { tail = z; last = inl refl; aimless = refl }
-  ; baton = inl (λ d. refl, tt) })
+new-line f S z idle = subst (λ (W : ℕ → View). Line f W []) (sym (fun-ext (λ d. ap view (idle d)))) (record {
+  nodes = λ c d e. inr refl;
+  cells = λ c. tt;
+  members = λ c j. clash false j refl;
+  once = tt;
+  chain = record { tail = z; last = inl refl; aimless = refl };
+  baton = inl (λ d. refl, tt);
+})
 
 -- a free node is no card's
 free-card : (cs : List Card) (n d : ℕ) → free cs n ≡ true → link (view (getD cs d idle-card .stage)) ≡ suc n → ⊥
 free-card [] n d h e = omega arith
 free-card (r ∷ cs) n zero h e =
-  clash false (subst (λ (b : Bool). cond b false (free cs n) ≡ true) (has-link (r .stage) n e) h) refl
+    clash false (subst (λ (b : Bool). cond b false (free cs n) ≡ true) (has-link (r .stage) n e) h) refl
 free-card (r ∷ cs) n (suc d) h e = free-card cs n d (go (has-node (r .stage) n) h) e
   where
     go : (b : Bool) → cond b false (free cs n) ≡ true → free cs n ≡ true

@@ -35,9 +35,10 @@ ran-fed z b (k ∷ ks) = ran-fed z (after z b k) ks ∙ ap (λ (s : DoorState). 
 module _ (z : Size) (W : Within z) where
   -- a board that follows calls has the promise in its memory
   pub stands-after : (cs : List Call) (s : DoorState) → Follows z cs s → Stands-after z cs s
-  stands-after cs s e = record
-    { follows = e
-    ; stands = subst (λ (t : DoorState). Stands z (cells-in t) (fed z cs)) e (promised z W cs) }
+  stands-after cs s e = record {
+    follows = e;
+    stands = subst (λ (t : DoorState). Stands z (cells-in t) (fed z cs)) e (promised z W cs);
+  }
 
   -- a board newly set up
   pub begins : (s : DoorState) → s ≡ new-door → Stands-after z [] s
@@ -47,27 +48,28 @@ module _ (z : Size) (W : Within z) where
   -- a call
   pub carries : (k : Call) (s t : DoorState) (r : Result Answer DoorFault) → (r, t) ≡ called z s k → Carries z k s t r
   carries k s t r e cs f =
-    let B = fed z cs in
-    let X = fed z (cs ++ k ∷ []) in
-    let E = fed-more z cs k in
-    let G : X .board ≡ t = ap (λ (b : Book). b .board) E ∙ board-after z B k ∙ ap (λ (x : DoorState). called z x k .1) f
-          ∙ sym (ap (λ (p : Result Answer DoorFault × DoorState). p .1) e) in
-    record
-    { after = stands-after (cs ++ k ∷ []) t G
-    ; untouched =
-        subst (λ (y : DoorState). Untouched z k (cells-in s) (cells-in y) B X) G
-          (subst (λ (x : DoorState). Untouched z k (cells-in x) (cells-of X) B X) f
+      let B = fed z cs in
+      let X = fed z (cs ++ k ∷ []) in
+      let E = fed-more z cs k in
+      let G : X .board ≡ t = ap (λ (b : Book). b .board) E ∙ board-after z B k ∙ ap (λ (x : DoorState). called z x k .1) f
+      ∙ sym (ap (λ (p : Result Answer DoorFault × DoorState). p .1) e) in
+      record {
+        after = stands-after (cs ++ k ∷ []) t G;
+        untouched =
+            subst (λ (y : DoorState). Untouched z k (cells-in s) (cells-in y) B X) G
+            (subst (λ (x : DoorState). Untouched z k (cells-in x) (cells-of X) B X) f
             (subst (λ (b : Book). Untouched z k (cells-of B) (cells-of b) B b) (sym E)
-              (untouched z W B (whole z W cs .inv) k)))
-    ; never-8 = subst Never-8
-        (ap (λ (x : DoorState). called z x k .0) f ∙ sym (ap (λ (p : Result Answer DoorFault × DoorState). p .0) e))
-        (never z W cs k) }
+            (untouched z W B (whole z W cs .inv) k)));
+        never-8 = subst Never-8
+            (ap (λ (x : DoorState). called z x k .0) f ∙ sym (ap (λ (p : Result Answer DoorFault × DoorState). p .0) e))
+            (never z W cs k);
+      }
 
   -- a list of calls
   pub carries-all : (ks : List Call) (s t : DoorState) → t ≡ ran z s ks → Carries-all z ks s t
   unfolding fed
   carries-all ks s t e cs f = stands-after (cs ++ ks) t
-    (ap (λ (b : Book). b .board) (fed-append z new-book cs ks) ∙ ran-fed z (fed z cs) ks
+      (ap (λ (b : Book). b .board) (fed-append z new-book cs ks) ∙ ran-fed z (fed z cs) ks
       ∙ ap (λ (x : DoorState). ran z x ks) f ∙ sym e)
 
   -- before the first call and after each
@@ -79,7 +81,7 @@ module _ (z : Size) (W : Within z) where
       → place ≡ placed (nodes-in-line (s .lock .meaning) (s .lock .cards))
       → count ≡ length (nodes-in-line (s .lock .meaning) (s .lock .cards)) → Lines-up z s place count
   lines-up s place count p q cs f =
-    let w : nodes-in-line (s .lock .meaning) (s .lock .cards) ≡ nodes-of (fed z cs .line)
-          = subst (λ (x : DoorState). nodes-in-line (x .lock .meaning) (x .lock .cards) ≡ nodes-of (fed z cs .line)) f
-              (line-is-walked z W (fed z cs) (whole z W cs .inv)) in
-    (p ∙ ap placed w, q ∙ ap length w ∙ length-map (fed z cs .line) (λ (x : Place). x .node))
+      let w : nodes-in-line (s .lock .meaning) (s .lock .cards) ≡ nodes-of (fed z cs .line)
+      = subst (λ (x : DoorState). nodes-in-line (x .lock .meaning) (x .lock .cards) ≡ nodes-of (fed z cs .line)) f
+      (line-is-walked z W (fed z cs) (whole z W cs .inv)) in
+      (p ∙ ap placed w, q ∙ ap length w ∙ length-map (fed z cs .line) (λ (x : Place). x .node))

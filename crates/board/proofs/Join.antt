@@ -32,7 +32,7 @@ in-split c d (a ∷ l) (inr i) = ⊎-elim (λ j. inl (inr j)) inr (in-split c d 
 once-join : (d : ℕ) (l : List ℕ) → Once l → (In d l → ⊥) → Once (l ++ (d ∷ []))
 once-join d [] u n = (λ i. i, tt)
 once-join d (a ∷ l) u n =
-  (λ i. ⊎-elim (u .0) (λ e. n (inl (sym e))) (in-split a d l i), once-join d l (u .1) (λ i. n (inr i)))
+    (λ i. ⊎-elim (u .0) (λ e. n (inl (sym e))) (in-split a d l i), once-join d l (u .1) (λ i. n (inr i)))
 
 -- an active reader is one whose state stands at 3
 pub active-state : (f : ℕ → ℕ) (v : View) → joined v ≡ true → Cells f v
@@ -89,34 +89,41 @@ module _ (f g : ℕ → ℕ) (V : ℕ → View) (l : List ℕ) (I : Line f V l) 
   tail-card m e = let w = chain-end f V l 0 tt (I .chain) in go (w .0) (w .1) (w .2)
     where
       go : (p : ℕ) → Ok V p → End f (who V p)
-        → (d : ℕ) × (joined (V d) ≡ true) × (link (V d) ≡ suc m) × (f (next m) ≡ 0)
+          → (d : ℕ) × (joined (V d) ≡ true) × (link (V d) ≡ suc m) × (f (next m) ≡ 0)
       go zero o E = let t = E .tail in absurd (omega arith)
-      go (suc d) o E = let k = sym (E .tail) ∙ e in
-        (d, o, k, ⊎-elim (λ z. absurd (omega arith))
-          (λ h. ap (λ (x : ℕ). f (next x)) (sym (node-is (V d) m o k)) ∙ h) (E .last))
+      go (suc d) o E = let k = sym (E .tail) ∙ e in (
+        d,
+        o,
+        k,
+        ⊎-elim (λ z. absurd (omega arith))
+            (λ h. ap (λ (x : ℕ). f (next x)) (sym (node-is (V d) m o k)) ∙ h) (E .last),
+      )
 
   -- every other card has another node; who is out of line has not the tail's
   apart-node : (d : ℕ) → (d ≡ c → ⊥) → link (V d) ≡ suc (node (V d)) → node (V d) ≡ n → ⊥
   apart-node d nd q e = ⊎-elim nd (λ z. omega arith) (I .nodes d c (q ∙ ap suc e ∙ sym (J .has)))
 
   apart-tail : (d : ℕ) → joined (V d) ≡ false → link (V d) ≡ suc (node (V d)) → (m : ℕ) → f 0 ≡ suc m
-    → node (V d) ≡ m → ⊥
+      → node (V d) ≡ m → ⊥
   apart-tail d j q m e h = let T = tail-card m e in
-    ⊎-elim (λ x. clash (joined (V d)) (ap (λ (y : ℕ). joined (V y)) x ∙ T .1) j)
+      ⊎-elim (λ x. clash (joined (V d)) (ap (λ (y : ℕ). joined (V y)) x ∙ T .1) j)
       (λ z. omega arith) (I .nodes d (T .0) (q ∙ ap suc h ∙ sym (T .2)))
 
   k-spin : (k : ℕ) → g (spin k) ≡ f (spin k)
   k-spin k = J .kept (spin k) (omega arith) (omega arith) (λ m _. omega arith)
+
   k-state : (k : ℕ) → g (state k) ≡ f (state k)
   k-state k = J .kept (state k) (omega arith) (omega arith) (λ m _. omega arith)
+
   k-prev : (k : ℕ) → (k ≡ n → ⊥) → g (prev k) ≡ f (prev k)
   k-prev k h = J .kept (prev k) (omega arith) (omega arith) (λ m _. omega arith)
+
   k-next : (k : ℕ) → ((m : ℕ) → f 0 ≡ suc m → k ≡ m → ⊥) → g (next k) ≡ f (next k)
   k-next k h = J .kept (next k) (omega arith) (omega arith) (λ m e q. h m e (omega arith))
 
   k-seat : (d : ℕ) → joined (V d) ≡ true → Seat f g (V d) (V d)
   k-seat d j = seat-frame f g (V d)
-    (λ _. k-prev (node (V d)) (apart-node d (other d j) (joined-link (V d) j))) (k-spin (node (V d)))
+      (λ _. k-prev (node (V d)) (apart-node d (other d j) (joined-link (V d) j))) (k-spin (node (V d)))
 
   -- who stands ahead of another is not the last
   k-front : (p d : ℕ) → Ok V p → Spot f (who V p) (V d) → Front f g (who V p) (who (at V c u) p)
@@ -125,39 +132,42 @@ module _ (f g : ℕ → ℕ) (V : ℕ → View) (l : List ℕ) (I : Line f V l) 
     where
       not-last : (m : ℕ) → f 0 ≡ suc m → node (V e) ≡ m → ⊥
       not-last m t q =
-        let w = tail-card m t .3 in let j = joined-link (V e) o in let y = joined-link (V d) (P .in-line) in
-        ⊎-elim (λ z. omega arith) (λ z. let x = sym (ap (λ (x : ℕ). f (next x)) q) ∙ z in omega arith) (P .from)
+          let w = tail-card m t .3 in let j = joined-link (V e) o in let y = joined-link (V d) (P .in-line) in
+          ⊎-elim (λ z. omega arith) (λ z. let x = sym (ap (λ (x : ℕ). f (next x)) q) ∙ z in omega arith) (P .from)
 
   -- the new place
   new : (p : ℕ) → Ok V p → End f (who V p) → Spot g (who (at V c u) p) (at V c u c)
-  new zero o E = rw (at-same V c u) (record
-    { in-line = J .in-line
-    ; from = inl refl
-    ; ahead = λ r. subst (λ (x : ℕ). g (prev x) ≡ 0) (sym my-node) (J .backed r ∙ E .tail)
-    ; turnw = λ _ _. refl
-    ; turnr = λ _ _. inl refl
-    ; aim = inl refl
-    ; owed = λ a _ _. clash false a refl })
+  new zero o E = rw (at-same V c u) (record {
+    in-line = J .in-line;
+    from = inl refl;
+    ahead = λ r. subst (λ (x : ℕ). g (prev x) ≡ 0) (sym my-node) (J .backed r ∙ E .tail);
+    turnw = λ _ _. refl;
+    turnr = λ _ _. inl refl;
+    aim = inl refl;
+    owed = λ a _ _. clash false a refl;
+  })
   new (suc d) o E =
-    let q = joined-link (V d) o in let t = E .tail ∙ q in let A = active-state f (V d) o (I .cells d) in
-    rw (at-same V c u, same d o) (record
-    { in-line = J .in-line
-    ; from = inr (J .linked (node (V d)) t ∙ sym (J .keeps))
-    ; ahead = λ r. subst (λ (x : ℕ). g (prev x) ≡ link (V d)) (sym my-node) (J .backed r ∙ E .tail)
-    ; turnw = λ r k. sym (E .tail) ∙ J .writer-in r k
-    ; turnr = λ r k. ⊎-elim (λ z. inl (sym (E .tail) ∙ z)) (λ h. inr (A .1 (h (node (V d)) t))) (J .reader-in r k)
-    ; aim = inl (E .aimless)
-    ; owed = λ a r k. absurd (J .reader-waits r k (node (V d)) t (A .0 a)) })
+      let q = joined-link (V d) o in let t = E .tail ∙ q in let A = active-state f (V d) o (I .cells d) in
+      rw (at-same V c u, same d o) (record {
+        in-line = J .in-line;
+        from = inr (J .linked (node (V d)) t ∙ sym (J .keeps));
+        ahead = λ r. subst (λ (x : ℕ). g (prev x) ≡ link (V d)) (sym my-node) (J .backed r ∙ E .tail);
+        turnw = λ r k. sym (E .tail) ∙ J .writer-in r k;
+        turnr = λ r k. ⊎-elim (λ z. inl (sym (E .tail) ∙ z)) (λ h. inr (A .1 (h (node (V d)) t))) (J .reader-in r k);
+        aim = inl (E .aimless);
+        owed = λ a r k. absurd (J .reader-waits r k (node (V d)) t (A .0 a));
+      })
 
   new-end : End g (at V c u c)
-  new-end = rw (at-same V c u) (record
-    { tail = J .tail ∙ sym (J .keeps)
-    ; last = inr (ap (λ (x : ℕ). g (next x)) my-node ∙ k-next n apart ∙ J .names-nobody)
-    ; aimless = J .aimless })
+  new-end = rw (at-same V c u) (record {
+    tail = J .tail ∙ sym (J .keeps);
+    last = inr (ap (λ (x : ℕ). g (next x)) my-node ∙ k-next n apart ∙ J .names-nobody);
+    aimless = J .aimless;
+  })
     where
       apart : (m : ℕ) → f 0 ≡ suc m → n ≡ m → ⊥
       apart m e q = let T = tail-card m e in
-        ⊎-elim (λ x. other (T .0) (T .1) x) (λ z. omega arith)
+          ⊎-elim (λ x. other (T .0) (T .1) x) (λ z. omega arith)
           (I .nodes (T .0) c (T .2 ∙ ap suc (sym q) ∙ sym (J .has)))
 
   head-led : (k : List ℕ) (p : ℕ) → Chain f V p k → Led f V k → (k ≡ [] → f 0 ≡ 0) → Led g (at V c u) (k ++ (c ∷ []))
@@ -170,35 +180,40 @@ module _ (f g : ℕ → ℕ) (V : ℕ → View) (l : List ℕ) (I : Line f V l) 
 
   join-hand : (d : ℕ) → hand (at V c u d) ≡ hand (V d)
   join-hand d = at-all (λ (d : ℕ) (v : View). hand v ≡ hand (V d)) V c u
-    (J .still-handless ∙ sym (J .handless)) (λ d n. refl) d
+      (J .still-handless ∙ sym (J .handless)) (λ d n. refl) d
 
   join-baton : Baton f V l → Baton g (at V c u) (l ++ (c ∷ []))
-  join-baton (inl k) = inl
-    ( λ d. join-hand d ∙ k .0 d
-    , head-led l 0 (I .chain) (k .1) (λ e. subst (λ (k : List ℕ). Chain f V 0 k) e (I .chain) .tail) )
-  join-baton (inr k) = inr
-    ( k .0, rw (join-hand (k .0)) (k .1), λ e. rw (join-hand e) (k .2 e)
-    , rw (join-hand (k .0)) (head-due (hand (V (k .0))) l 0 (I .chain) (k .3)) )
+  join-baton (inl k) = inl (
+    λ d. join-hand d ∙ k .0 d,
+    head-led l 0 (I .chain) (k .1) (λ e. subst (λ (k : List ℕ). Chain f V 0 k) e (I .chain) .tail),
+  )
+  join-baton (inr k) = inr (
+    k .0,
+    rw (join-hand (k .0)) (k .1),
+    λ e. rw (join-hand e) (k .2 e),
+    rw (join-hand (k .0)) (head-due (hand (V (k .0))) l 0 (I .chain) (k .3)),
+  )
 
   join-cells : (d : ℕ) → (d ≡ c → ⊥) → Cells g (V d)
   join-cells d nd = let k = node (V d) in cells-frame f g (V d) (λ _. k-state k) (λ _ _. k-spin k)
-    (λ q j. k-next k (apart-tail d j q)) (λ q j. k-prev k (apart-node d nd q)) (I .cells d)
+      (λ q j. k-next k (apart-tail d j q)) (λ q j. k-prev k (apart-node d nd q)) (I .cells d)
 
   joined-line : Line g (at V c u) (l ++ (c ∷ []))
-  joined-line = record
-    { nodes = nodes-at V c u (inl (J .keeps ∙ sym (J .has))) (I .nodes)
-    ; cells = at-all (λ (d : ℕ) (v : View). Cells g v) V c u (J .stands) join-cells
-    ; members = at-all (λ (d : ℕ) (v : View). joined v ≡ true → In d (l ++ (c ∷ []))) V c u
-        (λ _. in-last c l) (λ d _ j. in-join d c l (I .members d j))
-    ; once = once-join c l (I .once) (λ i. clash (joined (V c)) (chain-joined f V l 0 (I .chain) c i) (J .outside))
-    ; chain = chain-join f g V (at V c u) c l
+  joined-line = record {
+    nodes = nodes-at V c u (inl (J .keeps ∙ sym (J .has))) (I .nodes);
+    cells = at-all (λ (d : ℕ) (v : View). Cells g v) V c u (J .stands) join-cells;
+    members = at-all (λ (d : ℕ) (v : View). joined v ≡ true → In d (l ++ (c ∷ []))) V c u
+        (λ _. in-last c l) (λ d _ j. in-join d c l (I .members d j));
+    once = once-join c l (I .once) (λ i. clash (joined (V c)) (chain-joined f V l 0 (I .chain) c i) (J .outside));
+    chain = chain-join f g V (at V c u) c l
         (λ p d i o P. rw (same d (P .in-line))
-          (seat-place f g (who V p) (who (at V c u) p) (V d) (V d) (k-front p d o P) (k-seat d (P .in-line)) P))
-        new new-end 0 tt (I .chain)
-    ; baton = join-baton (I .baton) }
+        (seat-place f g (who V p) (who (at V c u) p) (V d) (V d) (k-front p d o P) (k-seat d (P .in-line)) P))
+        new new-end 0 tt (I .chain);
+    baton = join-baton (I .baton);
+  }
 
 -- a joining commit keeps the line
 pub join-line : (f g : ℕ → ℕ) (V : ℕ → View) (l : List ℕ) → Line f V l → (c n : ℕ) (v u : View) → V c ≡ v
     → Joining f g v n u → Line g (at V c u) (l ++ (c ∷ []))
 join-line f g V l I c n v u is J =
-  joined-line f g V l I c n u (subst (λ (v : View). Joining f g v n u) (sym is) J)
+    joined-line f g V l I c n u (subst (λ (v : View). Joining f g v n u) (sym is) J)

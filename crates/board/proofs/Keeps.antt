@@ -95,18 +95,22 @@ pub safe-by : (z : Size) (s : LockState) (l : List Place) (q : List Sum) (f : �
     → standing (s .meaning) ≡ f → tx-of (s .meaning) ≡ t → stage-of s ≡ S
     → Isolated f t S → Line f (views S) (cards-of l) → ((c : ℕ) → z .cards ≤ c → S c ≡ Idle)
     → ((c : ℕ) → Sound (z .nodes) (z .counters) (S c)) → Seated S l → Counted z f S q → Safe z s l q
-safe-by z s l q f t S cl tl sl ef et eS I L A K W C = record
-  { kept = record
-      { cells = cl; txs = tl; cards = sl
-      ; isolated = subst (λ (g : ℕ → ℕ). Isolated g (tx-of (s .meaning)) (stage-of s)) (sym ef)
-          (subst (λ (u : ℕ → Tx). Isolated f u (stage-of s)) (sym et) (subst (λ (T : ℕ → Stage). Isolated f t T) (sym eS) I))
-      ; line = subst (λ (g : ℕ → ℕ). Line g (views (stage-of s)) (cards-of l)) (sym ef)
-          (subst (λ (T : ℕ → Stage). Line f (views T) (cards-of l)) (sym eS) L)
-      ; absent = subst (λ (T : ℕ → Stage). (c : ℕ) → z .cards ≤ c → T c ≡ Idle) (sym eS) A
-      ; sound = subst (λ (T : ℕ → Stage). (c : ℕ) → Sound (z .nodes) (z .counters) (T c)) (sym eS) K }
-  ; seated = subst (λ (T : ℕ → Stage). Seated T l) (sym eS) W
-  ; counted = subst (λ (g : ℕ → ℕ). Counted z g (stage-of s) q) (sym ef)
-      (subst (λ (T : ℕ → Stage). Counted z f T q) (sym eS) C) }
+safe-by z s l q f t S cl tl sl ef et eS I L A K W C = record {
+  kept = record {
+    cells = cl;
+    txs = tl;
+    cards = sl;
+    isolated = subst (λ (g : ℕ → ℕ). Isolated g (tx-of (s .meaning)) (stage-of s)) (sym ef)
+        (subst (λ (u : ℕ → Tx). Isolated f u (stage-of s)) (sym et) (subst (λ (T : ℕ → Stage). Isolated f t T) (sym eS) I));
+    line = subst (λ (g : ℕ → ℕ). Line g (views (stage-of s)) (cards-of l)) (sym ef)
+        (subst (λ (T : ℕ → Stage). Line f (views T) (cards-of l)) (sym eS) L);
+    absent = subst (λ (T : ℕ → Stage). (c : ℕ) → z .cards ≤ c → T c ≡ Idle) (sym eS) A;
+    sound = subst (λ (T : ℕ → Stage). (c : ℕ) → Sound (z .nodes) (z .counters) (T c)) (sym eS) K;
+  };
+  seated = subst (λ (T : ℕ → Stage). Seated T l) (sym eS) W;
+  counted = subst (λ (g : ℕ → ℕ). Counted z g (stage-of s) q) (sym ef)
+      (subst (λ (T : ℕ → Stage). Counted z f T q) (sym eS) C);
+}
 
 -- a row that was accepted answers no refusal of the memory
 goes-fine : (g : Stage) (v : ℕ) → Fine (goes g v .1)
@@ -146,22 +150,26 @@ stores-left : (c : ℕ) (S : ℕ → Stage) → c < 8 → in-tx (S c) ≡ false 
     → (n : Meaning) × Left c S ws m n
 stores-left c S lt o [] b m cl tl I = (m, record { done = refl; cells = cl; txs = tl; stands = refl; isolated = I })
 stores-left c S lt o (w ∷ ws) b m cl tl I =
-  let k = memory-call.Store c (w .0) (w .1) in
-  let none-is = outside (standing m) (S c) (tx-of m c) o (I .agrees c) in
-  let B = bridge m cl tl c lt k (refl, b .0) (subst Recorded (sym none-is) tt) in
-  let E = store-accepted (standing m) (tx-of m) S I c (w .0) (w .1) o in
-  let D = performed m k .after in
-  let J : Isolated (standing D) (tx-of D) S =
-        subst (λ (f : ℕ → ℕ). Isolated f (tx-of D) S) (sym (B .cell))
-          (subst (λ (t : ℕ → Tx). Isolated (seen c k (standing m) (tx-of m) .cell) t S) (sym (B .tx))
-            (store-isolated (standing m) (tx-of m) S I c (w .0) (w .1) o)) in
-  let R = stores-left c S lt o ws (b .1) D (B .cells) (B .txs) J in
-  let a : performed m k .answer ≡ Ok 0 = B .answer ∙ ap (λ (o : Out). o .answer) E in
-  (R .0, record
-    { done = rw (a, stores) (R .1 .done)
-    ; cells = R .1 .cells; txs = R .1 .txs
-    ; stands = R .1 .stands ∙ ap (stored ws) (B .cell ∙ ap (λ (o : Out). o .cell) E)
-    ; isolated = R .1 .isolated })
+    let k = memory-call.Store c (w .0) (w .1) in
+    let none-is = outside (standing m) (S c) (tx-of m c) o (I .agrees c) in
+    let B = bridge m cl tl c lt k (refl, b .0) (subst Recorded (sym none-is) tt) in
+    let E = store-accepted (standing m) (tx-of m) S I c (w .0) (w .1) o in
+    let D = performed m k .after in
+    let J : Isolated (standing D) (tx-of D) S =
+    subst (λ (f : ℕ → ℕ). Isolated f (tx-of D) S) (sym (B .cell))
+    (subst (λ (t : ℕ → Tx). Isolated (seen c k (standing m) (tx-of m) .cell) t S) (sym (B .tx))
+    (store-isolated (standing m) (tx-of m) S I c (w .0) (w .1) o)) in
+    let R = stores-left c S lt o ws (b .1) D (B .cells) (B .txs) J in
+    let a : performed m k .answer ≡ Ok 0 = B .answer ∙ ap (λ (o : Out). o .answer) E in (
+      R .0,
+      record {
+        done = rw (a, stores) (R .1 .done);
+        cells = R .1 .cells;
+        txs = R .1 .txs;
+        stands = R .1 .stands ∙ ap (stored ws) (B .cell ∙ ap (λ (o : Out). o .cell) E);
+        isolated = R .1 .isolated;
+      },
+    )
 
 -- a lock's state that is safe, on sizes within the ranges, and a card c that there is
 module _ (z : Size) (W : Within z) (s : LockState) (l : List Place) (q : List Sum) (h : Safe z s l q)
@@ -184,12 +192,12 @@ module _ (z : Size) (W : Within z) (s : LockState) (l : List Place) (q : List Su
   -- a call of the card in range, seen through functions
   sees : (k : MemoryCall) → Ranged c k → Same (performed m k) (seen c k (standing m) (tx-of m))
   sees k r = bridge m (h .kept .cells) (h .kept .txs) c low k r
-    (recorded N K (standing m) (S c) (tx-of m c) (W .nodes) (h .kept .sound c) (h .kept .isolated .agrees c))
+      (recorded N K (standing m) (S c) (tx-of m c) (W .nodes) (h .kept .sound c) (h .kept .isolated .agrees c))
 
   -- the card's stage, which is sound, in place of the old one
   absent-with : (g : Stage) → (d : ℕ) → z .cards ≤ d → at S c g d ≡ Idle
   absent-with g = at-all (λ (d : ℕ) (x : Stage). z .cards ≤ d → x ≡ Idle) S c g (λ w. absurd (omega arith))
-    (λ d _. h .kept .absent d)
+      (λ d _. h .kept .absent d)
 
   sound-with : (g : Stage) → Sound N K g → (d : ℕ) → Sound N K (at S c g d)
   sound-with g k = at-all (λ (d : ℕ) (x : Stage). Sound N K x) S c g k (λ d _. h .kept .sound d)
@@ -199,73 +207,75 @@ module _ (z : Size) (W : Within z) (s : LockState) (l : List Place) (q : List Su
       → Good z (step-by s c o) (lined c (deed-by m (S c) o) l) (summed c (deed-by m (S c) o) q)
   step-good None e = (h, λ x. omega arith)
   step-good (Some k) e =
-    let P = seen c k (standing m) (tx-of m) in
-    let B = sees k (ranged N K c (S c) (W .nodes) (W .counters) (h .kept .sound c) k e) in
-    subst (λ (r : Result ℕ MemoryFault). Good z
-        (advanced (S c) r .1, staged s (performed m k .after) c (advanced (S c) r .0))
-        (lined c (cond (accepted r) (deed (S c)) plain) l) (summed c (cond (accepted r) (deed (S c)) plain) q))
-      (sym (B .answer))
-      ( safe-by z (staged s (performed m k .after) c (advanced (S c) (P .answer) .0))
-          (lined c (cond (accepted (P .answer)) (deed (S c)) plain) l)
-          (summed c (cond (accepted (P .answer)) (deed (S c)) plain) q)
-          (P .cell) (P .tx) (at S c (advanced (S c) (P .answer) .0))
-          (B .cells) (B .txs) (staged-length s (performed m k .after) c (advanced (S c) (P .answer) .0) (h .kept .cards))
-          (B .cell) (B .tx) (staged-is s (performed m k .after) c (advanced (S c) (P .answer) .0) (h .kept .cards) low)
-          (step-isolated N K (standing m) (tx-of m) S (h .kept .isolated) c (h .kept .sound c) k e)
-          (subst (Line (P .cell) (views (at S c (advanced (S c) (P .answer) .0))))
+      let P = seen c k (standing m) (tx-of m) in
+      let B = sees k (ranged N K c (S c) (W .nodes) (W .counters) (h .kept .sound c) k e) in
+      subst (λ (r : Result ℕ MemoryFault). Good z
+      (advanced (S c) r .1, staged s (performed m k .after) c (advanced (S c) r .0))
+      (lined c (cond (accepted r) (deed (S c)) plain) l) (summed c (cond (accepted r) (deed (S c)) plain) q))
+      (sym (B .answer)) (
+        safe-by z (staged s (performed m k .after) c (advanced (S c) (P .answer) .0))
+            (lined c (cond (accepted (P .answer)) (deed (S c)) plain) l)
+            (summed c (cond (accepted (P .answer)) (deed (S c)) plain) q)
+            (P .cell) (P .tx) (at S c (advanced (S c) (P .answer) .0))
+            (B .cells) (B .txs) (staged-length s (performed m k .after) c (advanced (S c) (P .answer) .0) (h .kept .cards))
+            (B .cell) (B .tx) (staged-is s (performed m k .after) c (advanced (S c) (P .answer) .0) (h .kept .cards) low)
+            (step-isolated N K (standing m) (tx-of m) S (h .kept .isolated) c (h .kept .sound c) k e)
+            (subst (Line (P .cell) (views (at S c (advanced (S c) (P .answer) .0))))
             (sym (cards-lined c (cond (accepted (P .answer)) (deed (S c)) plain) l))
             (step-line c N K (standing m) (tx-of m) S (cards-of l) k e (h .kept .line) (h .kept .sound)
-              (h .kept .isolated .agrees c)))
-          (absent-with (advanced (S c) (P .answer) .0))
-          (sound-with (advanced (S c) (P .answer) .0)
+            (h .kept .isolated .agrees c)))
+            (absent-with (advanced (S c) (P .answer) .0))
+            (sound-with (advanced (S c) (P .answer) .0)
             (step-sound N K (standing m) S (cards-of l) (h .kept .line) (h .kept .sound) c (tx-of m)
-              (h .kept .isolated .agrees c) k e))
-          (seated-step (standing m) S l (h .kept .line) (h .seated) c (P .answer))
-          (step-counted z (standing m) (tx-of m) S (cards-of l) (h .kept .line) (h .kept .sound) q (h .counted) c
-            (h .kept .isolated .agrees c) k e)
-      , advanced-fine (S c) (P .answer)
-          (step-fair N K (standing m) (tx-of m) S (h .kept .isolated) c (h .kept .sound c) k e) )
+            (h .kept .isolated .agrees c) k e))
+            (seated-step (standing m) S l (h .kept .line) (h .seated) c (P .answer))
+            (step-counted z (standing m) (tx-of m) S (cards-of l) (h .kept .line) (h .kept .sound) q (h .counted) c
+            (h .kept .isolated .agrees c) k e),
+        advanced-fine (S c) (P .answer)
+            (step-fair N K (standing m) (tx-of m) S (h .kept .isolated) c (h .kept .sound c) k e),
+      )
 
   -- the card stands at another stage outside of a transaction, seen alike by the line
   restage-safe : (g : Stage) → in-tx (S c) ≡ false → in-tx g ≡ false → view g ≡ view (S c) → Sound N K g
       → finishing g ≡ false → Safe z (staged s m c g) l q
   restage-safe g o i v k n = safe-by z (staged s m c g) l q (standing m) (tx-of m) (at S c g)
-    (h .kept .cells) (h .kept .txs) (staged-length s m c g (h .kept .cards)) refl refl
-    (staged-is s m c g (h .kept .cards) low)
-    (restaged (standing m) (tx-of m) S (h .kept .isolated) c g o i)
-    (line-same (standing m) S (cards-of l) c g v (h .kept .line))
-    (absent-with g) (sound-with g k) (seated-same S c g l (ap link v, ap reader v) (h .seated))
-    (counted-stage z (standing m) S q c g n (h .counted))
+      (h .kept .cells) (h .kept .txs) (staged-length s m c g (h .kept .cards)) refl refl
+      (staged-is s m c g (h .kept .cards) low)
+      (restaged (standing m) (tx-of m) S (h .kept .isolated) c g o i)
+      (line-same (standing m) S (cards-of l) c g v (h .kept .line))
+      (absent-with g) (sound-with g k) (seated-same S c g l (ap link v, ap reader v) (h .seated))
+      (counted-stage z (standing m) S q c g n (h .counted))
 
   -- an abort inside of a transaction
   drop-good : in-tx (S c) ≡ true
       → Good z (drop-by s c (performed m (memory-call.Drop c) .answer) (performed m (memory-call.Drop c) .after)) l q
   drop-good i =
-    let P = seen c (memory-call.Drop c) (standing m) (tx-of m) in
-    let B = sees (memory-call.Drop c) refl in
-    let E = drop-accepted (standing m) (tx-of m) S (h .kept .isolated) c i in
-    let D = performed m (memory-call.Drop c) .after in
-    let g = begin-of (S c) in
-    subst (λ (r : Result ℕ MemoryFault). Good z (drop-by s c r D) l q) (sym (B .answer ∙ ap (λ (o : Out). o .answer) E))
-      ( safe-by z (staged s D c g) l q (P .cell) (P .tx) (at S c g)
-          (B .cells) (B .txs) (staged-length s D c g (h .kept .cards)) (B .cell) (B .tx)
-          (staged-is s D c g (h .kept .cards) low)
-          (drop-isolated (standing m) (tx-of m) S (h .kept .isolated) c i)
-          (subst (λ (f : ℕ → ℕ). Line f (views (at S c g)) (cards-of l)) (sym (ap (λ (o : Out). o .cell) E))
+      let P = seen c (memory-call.Drop c) (standing m) (tx-of m) in
+      let B = sees (memory-call.Drop c) refl in
+      let E = drop-accepted (standing m) (tx-of m) S (h .kept .isolated) c i in
+      let D = performed m (memory-call.Drop c) .after in
+      let g = begin-of (S c) in
+      subst (λ (r : Result ℕ MemoryFault). Good z (drop-by s c r D) l q) (sym (B .answer ∙ ap (λ (o : Out). o .answer) E)) (
+        safe-by z (staged s D c g) l q (P .cell) (P .tx) (at S c g)
+            (B .cells) (B .txs) (staged-length s D c g (h .kept .cards)) (B .cell) (B .tx)
+            (staged-is s D c g (h .kept .cards) low)
+            (drop-isolated (standing m) (tx-of m) S (h .kept .isolated) c i)
+            (subst (λ (f : ℕ → ℕ). Line f (views (at S c g)) (cards-of l)) (sym (ap (λ (o : Out). o .cell) E))
             (line-begin (standing m) S (cards-of l) c (h .kept .line)))
-          (absent-with g) (sound-with g (begin-sound N K (S c) (h .kept .sound c)))
-          (seated-same S c g l (ap link (view-begin (S c)), ap reader (view-begin (S c))) (h .seated))
-          (subst (λ (f : ℕ → ℕ). Counted z f (at S c g) q) (sym (ap (λ (o : Out). o .cell) E))
-            (counted-stage z (standing m) S q c g (calm-begin (S c) ∙ calm-inside (S c) i) (h .counted)))
-      , tt )
+            (absent-with g) (sound-with g (begin-sound N K (S c) (h .kept .sound c)))
+            (seated-same S c g l (ap link (view-begin (S c)), ap reader (view-begin (S c))) (h .seated))
+            (subst (λ (f : ℕ → ℕ). Counted z f (at S c g) q) (sym (ap (λ (o : Out). o .cell) E))
+            (counted-stage z (standing m) S q c g (calm-begin (S c) ∙ calm-inside (S c) i) (h .counted))),
+        tt,
+      )
 
   abort-good : (o : Option MemoryCall) → call-of N c (S c) ≡ o → Good z (abort-by s c o) l q
   abort-good None e = (h, λ x. omega arith)
   abort-good (Some k) e = go (in-transaction k) (row-inside c (S c) k (row N K c (S c) (h .kept .sound c) k e))
     where
       go : (b : Bool) → b ≡ in-tx (S c)
-        → Good z (cond b (drop-by s c (performed m (memory-call.Drop c) .answer) (performed m (memory-call.Drop c) .after))
-            (refuses s NotAllowed)) l q
+          → Good z (cond b (drop-by s c (performed m (memory-call.Drop c) .answer) (performed m (memory-call.Drop c) .after))
+          (refuses s NotAllowed)) l q
       go true x = drop-good (sym x)
       go false x = (h, λ y. omega arith)
 
@@ -273,23 +283,24 @@ module _ (z : Size) (W : Within z) (s : LockState) (l : List Place) (q : List Su
   load-good : (a : ℕ) → a < 137 → in-tx (S c) ≡ false
       → Good z (count-by s (performed m (memory-call.Load c a) .answer) (performed m (memory-call.Load c a) .after)) l q
   load-good a lt o =
-    let P = seen c (memory-call.Load c a) (standing m) (tx-of m) in
-    let B = sees (memory-call.Load c a) (refl, lt) in
-    let E = load-accepted (standing m) (tx-of m) S (h .kept .isolated) c a o in
-    let D = performed m (memory-call.Load c a) .after in
-    subst (λ (r : Result ℕ MemoryFault). Good z (count-by s r D) l q) (sym (B .answer ∙ ap (λ (o : Out). o .answer) E))
-      ( safe-by z (kept s D) l q (P .cell) (P .tx) S (B .cells) (B .txs) (h .kept .cards) (B .cell) (B .tx) refl
-          (load-isolated (standing m) (tx-of m) S (h .kept .isolated) c a o)
-          (subst (λ (f : ℕ → ℕ). Line f (views S) (cards-of l)) (sym (ap (λ (o : Out). o .cell) E)) (h .kept .line))
-          (h .kept .absent) (h .kept .sound) (h .seated)
-          (subst (λ (f : ℕ → ℕ). Counted z f S q) (sym (ap (λ (o : Out). o .cell) E)) (h .counted))
-      , tt )
+      let P = seen c (memory-call.Load c a) (standing m) (tx-of m) in
+      let B = sees (memory-call.Load c a) (refl, lt) in
+      let E = load-accepted (standing m) (tx-of m) S (h .kept .isolated) c a o in
+      let D = performed m (memory-call.Load c a) .after in
+      subst (λ (r : Result ℕ MemoryFault). Good z (count-by s r D) l q) (sym (B .answer ∙ ap (λ (o : Out). o .answer) E)) (
+        safe-by z (kept s D) l q (P .cell) (P .tx) S (B .cells) (B .txs) (h .kept .cards) (B .cell) (B .tx) refl
+            (load-isolated (standing m) (tx-of m) S (h .kept .isolated) c a o)
+            (subst (λ (f : ℕ → ℕ). Line f (views S) (cards-of l)) (sym (ap (λ (o : Out). o .cell) E)) (h .kept .line))
+            (h .kept .absent) (h .kept .sound) (h .seated)
+            (subst (λ (f : ℕ → ℕ). Counted z f S q) (sym (ap (λ (o : Out). o .cell) E)) (h .counted)),
+        tt,
+      )
 
   -- stores into the node n leave the counters
   counters-stay : (n : ℕ) → n < N → (ws : List (ℕ × ℕ)) → All-within n ws → (T : ℕ → Stage)
       → Counted z (standing m) T q → Counted z (stored ws (standing m)) T q
   counters-stay n lt ws b T k = counted-cells z (standing m) (stored ws (standing m)) T q
-    (λ j. stored-other (standing m) n (counter-cell N j) ws b (λ w. let x = w .1 in omega arith)) k
+      (λ j. stored-other (standing m) n (counter-cell N j) ws b (λ w. let x = w .1 in omega arith)) k
 
   -- the card is idle: not in line, and outside of a transaction
   module _ (idle : S c ≡ Idle) where
@@ -298,7 +309,7 @@ module _ (z : Size) (W : Within z) (s : LockState) (l : List Place) (q : List Su
 
     not-in-line : In c (cards-of l) → ⊥
     not-in-line i = clash (joined (view (S c)))
-      (chain-joined (standing m) (views S) (cards-of l) 0 (h .kept .line .chain) c i) (ap (λ (x : Stage). joined (view x)) idle)
+        (chain-joined (standing m) (views S) (cards-of l) 0 (h .kept .line .chain) c i) (ap (λ (x : Stage). joined (view x)) idle)
 
     first-sound : (n : ℕ) (o : Mode) → n < N → Sound N K (first-stage n o)
     first-sound n Read lt = lt
@@ -316,49 +327,51 @@ module _ (z : Size) (W : Within z) (s : LockState) (l : List Place) (q : List Su
     enter-good : (o : Mode) (n : ℕ) → n < N → free (s .cards) n ≡ true
         → Good z (enter-by s c (first-stage n o) (stores c (entry-stores n o) m)) l q
     enter-good o n lt fr =
-      let u = free-unheld s n fr in
-      let R = stores-left c S low idle-outside (entry-stores n o)
-            (within-below n (entry-stores n o) (let w = W .nodes in omega arith) (entry-within n o))
-            m (h .kept .cells) (h .kept .txs) (h .kept .isolated) in
-      let D = R .0 in
-      let g = first-stage n o in
-      subst (λ (p : Result (Unit {0}) LockFault × Meaning). Good z (enter-by s c g p) l q) (sym (R .1 .done))
-        ( safe-by z (staged s D c g) l q (standing D) (tx-of D) (at S c g) (R .1 .cells) (R .1 .txs)
-            (staged-length s D c g (h .kept .cards)) refl refl (staged-is s D c g (h .kept .cards) low)
-            (restaged (standing D) (tx-of D) S (R .1 .isolated) c g idle-outside (first-out n o))
-            (subst (λ (f : ℕ → ℕ). Line f (views (at S c g)) (cards-of l)) (sym (R .1 .stands))
+        let u = free-unheld s n fr in
+        let R = stores-left c S low idle-outside (entry-stores n o)
+        (within-below n (entry-stores n o) (let w = W .nodes in omega arith) (entry-within n o))
+        m (h .kept .cells) (h .kept .txs) (h .kept .isolated) in
+        let D = R .0 in
+        let g = first-stage n o in
+        subst (λ (p : Result (Unit {0}) LockFault × Meaning). Good z (enter-by s c g p) l q) (sym (R .1 .done)) (
+          safe-by z (staged s D c g) l q (standing D) (tx-of D) (at S c g) (R .1 .cells) (R .1 .txs)
+              (staged-length s D c g (h .kept .cards)) refl refl (staged-is s D c g (h .kept .cards) low)
+              (restaged (standing D) (tx-of D) S (R .1 .isolated) c g idle-outside (first-out n o))
+              (subst (λ (f : ℕ → ℕ). Line f (views (at S c g)) (cards-of l)) (sym (R .1 .stands))
               (enter-line (standing m) S (cards-of l) c n o idle u (h .kept .line)))
-            (absent-with g) (sound-with g (first-sound n o lt)) (seated-other S c g l not-in-line (h .seated))
-            (subst (λ (f : ℕ → ℕ). Counted z f (at S c g) q) (sym (R .1 .stands))
+              (absent-with g) (sound-with g (first-sound n o lt)) (seated-other S c g l not-in-line (h .seated))
+              (subst (λ (f : ℕ → ℕ). Counted z f (at S c g) q) (sym (R .1 .stands))
               (counters-stay n lt (entry-stores n o) (entry-within n o) (at S c g)
-                (counted-stage z (standing m) S q c g (first-calm n o) (h .counted))))
-        , tt )
+              (counted-stage z (standing m) S q c g (first-calm n o) (h .counted)))),
+          tt,
+        )
 
     -- a reuse of a free node
     reuse-good : (n : ℕ) (v : NodeValues) → n < N → free (s .cards) n ≡ true
         → Good z (reuse-by s (stores c (reuse-stores n v) m)) l q
     reuse-good n v lt fr =
-      let u = free-unheld s n fr in
-      let R = stores-left c S low idle-outside (reuse-stores n v)
-            (within-below n (reuse-stores n v) (let w = W .nodes in omega arith) (reuse-within n v))
-            m (h .kept .cells) (h .kept .txs) (h .kept .isolated) in
-      let D = R .0 in
-      subst (λ (p : Result (Unit {0}) LockFault × Meaning). Good z (reuse-by s p) l q) (sym (R .1 .done))
-        ( safe-by z (kept s D) l q (standing D) (tx-of D) S (R .1 .cells) (R .1 .txs) (h .kept .cards) refl refl refl
-            (R .1 .isolated)
-            (subst (λ (f : ℕ → ℕ). Line f (views S) (cards-of l)) (sym (R .1 .stands))
+        let u = free-unheld s n fr in
+        let R = stores-left c S low idle-outside (reuse-stores n v)
+        (within-below n (reuse-stores n v) (let w = W .nodes in omega arith) (reuse-within n v))
+        m (h .kept .cells) (h .kept .txs) (h .kept .isolated) in
+        let D = R .0 in
+        subst (λ (p : Result (Unit {0}) LockFault × Meaning). Good z (reuse-by s p) l q) (sym (R .1 .done)) (
+          safe-by z (kept s D) l q (standing D) (tx-of D) S (R .1 .cells) (R .1 .txs) (h .kept .cards) refl refl refl
+              (R .1 .isolated)
+              (subst (λ (f : ℕ → ℕ). Line f (views S) (cards-of l)) (sym (R .1 .stands))
               (reuse-line (standing m) S (cards-of l) n v u (h .kept .line)))
-            (h .kept .absent) (h .kept .sound) (h .seated)
-            (subst (λ (f : ℕ → ℕ). Counted z f S q) (sym (R .1 .stands))
-              (counters-stay n lt (reuse-stores n v) (reuse-within n v) S (h .counted)))
-        , tt )
+              (h .kept .absent) (h .kept .sound) (h .seated)
+              (subst (λ (f : ℕ → ℕ). Counted z f S q) (sym (R .1 .stands))
+              (counters-stay n lt (reuse-stores n v) (reuse-within n v) S (h .counted))),
+          tt,
+        )
 
   -- a node that has to be there and free
   on-free-good : (n : ℕ) (t : Turn) → (n < N → free (s .cards) n ≡ true → Good z t l q) → Good z (on-free z s n t) l q
   on-free-good n t f = go (ltb n N) (free (s .cards) n) refl refl
     where
       go : (a b : Bool) → ltb n N ≡ a → free (s .cards) n ≡ b
-        → Good z (cond a (cond b t (refuses s NotFree)) (refuses s NoPlace)) l q
+          → Good z (cond a (cond b t (refuses s NotFree)) (refuses s NoPlace)) l q
       go true true x y = f (ltb-true n N x) y
       go true false x y = (h, λ e. omega arith)
       go false b x y = (h, λ e. omega arith)
@@ -385,7 +398,7 @@ module _ (z : Size) (W : Within z) (s : LockState) (l : List Place) (q : List Su
 
   enter-at-good : (o : Mode) (n : ℕ) (g : Stage) → S c ≡ g → Good z (enter-at z s c o n g) l q
   enter-at-good o n Idle e = on-free-good n (enter-by s c (first-stage n o) (stores c (entry-stores n o) m))
-    (enter-good e o n)
+      (enter-good e o n)
   enter-at-good o n (WriterEnters k at) e = not-allowed
   enter-at-good o n (ReaderEnters k at) e = not-allowed
   enter-at-good o n (Inside k j) e = not-allowed
@@ -422,20 +435,26 @@ module _ (z : Size) (W : Within z) (s : LockState) (l : List Place) (q : List Su
   inside-out n Write e = ap in-tx e
 
   leave-good : (n : ℕ) (o : Mode) → S c ≡ Inside n o → Good z (leave-at s c n o) l q
-  leave-good n Read e = (restage-safe (ReaderLeaves n Y1) (inside-out n Read e) refl (sym (ap view e))
-    (inside-node n Read e) refl, tt)
-  leave-good n Write e = (restage-safe (WriterLeaves n X1) (inside-out n Write e) refl (sym (ap view e))
-    (inside-node n Write e) refl, tt)
+  leave-good n Read e = (
+    restage-safe (ReaderLeaves n Y1) (inside-out n Read e) refl (sym (ap view e))
+        (inside-node n Read e) refl,
+    tt,
+  )
+  leave-good n Write e = (
+    restage-safe (WriterLeaves n X1) (inside-out n Write e) refl (sym (ap view e))
+        (inside-node n Write e) refl,
+    tt,
+  )
 
   add-good : (k a n : ℕ) (o : Mode) → S c ≡ Inside n o → Good z (add-at z s c k a n o) l q
   add-good k a n Read e = not-allowed
   add-good k a n Write e = on-counter-good k (Ok Done, staged s m c (Adds n (A1 k a)))
-    (λ lt. (restage-safe (Adds n (A1 k a)) (inside-out n Write e) refl (sym (ap view e)) (inside-node n Write e, lt) refl, tt))
+      (λ lt. (restage-safe (Adds n (A1 k a)) (inside-out n Write e) refl (sym (ap view e)) (inside-node n Write e, lt) refl, tt))
 
   show-good : (k n : ℕ) (o : Mode) → S c ≡ Inside n o → Good z (show-at z s c k n o) l q
   show-good k n o e =
-    let O = performed m (memory-call.Load c (counter-cell N k)) in
-    on-counter-good k (count-by s (O .answer) (O .after))
+      let O = performed m (memory-call.Load c (counter-cell N k)) in
+      on-counter-good k (count-by s (O .answer) (O .after))
       (λ lt. let a = W .nodes in let b = W .counters in load-good (counter-cell N k) (omega arith) (inside-out n o e))
 
   -- what the lock does on a request
@@ -443,7 +462,7 @@ module _ (z : Size) (W : Within z) (s : LockState) (l : List Place) (q : List Su
   served-good (Enter o n) = of-card-good (enter-at z s c o n (S c)) (enter-at-good o n (S c) refl)
   served-good Leave = of-card-good (inside-by s (leave-at s c) (S c)) (inside-good (leave-at s c) leave-good (S c) refl)
   served-good (Add k a) = of-card-good (inside-by s (add-at z s c k a) (S c))
-    (inside-good (add-at z s c k a) (add-good k a) (S c) refl)
+      (inside-good (add-at z s c k a) (add-good k a) (S c) refl)
   served-good (Show k) = of-card-good (inside-by s (show-at z s c k) (S c)) (inside-good (show-at z s c k) (show-good k) (S c) refl)
 
 -- a list of the same everywhere
@@ -470,18 +489,19 @@ module _ (z : Size) (W : Within z) where
     where
       o : Option MemoryCall
       o = call-of (z .nodes) c (stage-of s c)
+
       go : (b : Bool) → ltb c (z .cards) ≡ b
-        → Good z (cond b (step-by s c (call-of (z .nodes) c (stage-of s c))) (refuses s NoCard))
-            (lined c (cond b (deed-by (s .meaning) (stage-of s c) (call-of (z .nodes) c (stage-of s c))) plain) l)
-            (summed c (cond b (deed-by (s .meaning) (stage-of s c) (call-of (z .nodes) c (stage-of s c))) plain) q)
+          → Good z (cond b (step-by s c (call-of (z .nodes) c (stage-of s c))) (refuses s NoCard))
+          (lined c (cond b (deed-by (s .meaning) (stage-of s c) (call-of (z .nodes) c (stage-of s c))) plain) l)
+          (summed c (cond b (deed-by (s .meaning) (stage-of s c) (call-of (z .nodes) c (stage-of s c))) plain) q)
       go true e = step-good z W s l q h c (ltb-true c (z .cards) e) (call-of (z .nodes) c (stage-of s c)) refl
       go false e = (h, λ x. omega arith)
 
   pub abort-keeps : (s : LockState) (l : List Place) (q : List Sum) → Safe z s l q → (c : ℕ) → Good z (aborted z s c) l q
   abort-keeps s l q h c = of-card-keeps s l q h c (abort-by s c (call-of (z .nodes) c (stage-of s c)))
-    (λ lt. abort-good z W s l q h c lt (call-of (z .nodes) c (stage-of s c)) refl)
+      (λ lt. abort-good z W s l q h c lt (call-of (z .nodes) c (stage-of s c)) refl)
 
   pub reuse-keeps : (s : LockState) (l : List Place) (q : List Sum) → Safe z s l q → (c n : ℕ) (v : NodeValues)
       → Good z (reused z s c n v) l q
   reuse-keeps s l q h c n v = of-card-keeps s l q h c (reuse-at z s c n v (stage-of s c))
-    (λ lt. reuse-at-good z W s l q h c lt n v (stage-of s c) refl)
+      (λ lt. reuse-at-good z W s l q h c lt n v (stage-of s c) refl)

@@ -20,8 +20,6 @@ pub mod Steps
 pub mod Effects
 pub mod Frames
 pub mod Seats
-pub mod Lists
-pub mod Counts
 pub mod Turns
 pub mod Stores
 pub mod Stands

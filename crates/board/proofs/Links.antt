@@ -168,7 +168,7 @@ Same-seat s r = (link (view r) ≡ link (view s)) × (reader (view r) ≡ reader
 abbrev pub Seat-after : Deed → Stage → Stage → Type 0
 Seat-after plain s r = joined (view s) ≡ true → Same-seat s r
 Seat-after (joins n m) s r =
-  (joined (view s) ≡ false) × (link (view r) ≡ suc n) × (reader (view r) ≡ reads-mode m)
+    (joined (view s) ≡ false) × (link (view r) ≡ suc n) × (reader (view r) ≡ reads-mode m)
 Seat-after parts s r = Unit {0}
 Seat-after (finishes k a) s r = Same-seat s r
 
@@ -207,7 +207,7 @@ seat-goes (ReaderEnters n R11) v = λ _. (refl, refl)
 seat-goes (ReaderEnters n (R12 zero)) v = λ _. (refl, refl)
 seat-goes (ReaderEnters n (R12 (suc q))) v = λ _. (refl, refl)
 seat-goes (ReaderEnters n (R13 q)) v = λ _.
-  seat-look (eqb v 1) (ReaderEnters n (R13 q)) (ReaderEnters n (R14 q), Step) (Inside n mode.Read, In)
+    seat-look (eqb v 1) (ReaderEnters n (R13 q)) (ReaderEnters n (R14 q), Step) (Inside n mode.Read, In)
     (refl, refl) (refl, refl)
 seat-goes (ReaderEnters n (R14 q)) v = λ _. (refl, refl)
 seat-goes (Inside n mode.Write) v = λ _. (refl, refl)

@@ -75,14 +75,15 @@ pub nodes-at : (V : ℕ → View) (c : ℕ) (u : View) → (link u ≡ link (V c
 nodes-at V c u k N a b e = at-all
     (λ (a : ℕ) (x : View). link x ≡ link (at V c u b) → (a ≡ b) ⊎ (link x ≡ 0)) V c u
     (at-all (λ (b : ℕ) (y : View). link u ≡ link y → (c ≡ b) ⊎ (link u ≡ 0)) V c u
-      (λ _. inl refl) (λ b n e. own k b e) b)
+    (λ _. inl refl) (λ b n e. own k b e) b)
     (λ a n. at-all (λ (b : ℕ) (y : View). link (V a) ≡ link y → (a ≡ b) ⊎ (link (V a) ≡ 0)) V c u
-      (λ e. other k a e) (λ b _ e. N a b e) b)
+    (λ e. other k a e) (λ b _ e. N a b e) b)
     a e
   where
     own : (link u ≡ link (V c)) ⊎ (link u ≡ 0) → (b : ℕ) → link u ≡ link (V b) → (c ≡ b) ⊎ (link u ≡ 0)
     own (inr z) b e = inr z
     own (inl z) b e = rw z (N c b (sym z ∙ e))
+
     other : (link u ≡ link (V c)) ⊎ (link u ≡ 0) → (a : ℕ) → link (V a) ≡ link u → (a ≡ c) ⊎ (link (V a) ≡ 0)
     other (inr z) a e = inr (e ∙ z)
     other (inl z) a e = N a c (e ∙ z)
@@ -95,15 +96,19 @@ module _ (f : ℕ → ℕ) (m : ℕ) where
   w-tail : woken 0 ≡ f 0
   unfolding woken
   w-tail = at-other f (spin m) 0 0 (omega arith)
+
   w-next : (k : ℕ) → woken (next k) ≡ f (next k)
   unfolding woken
   w-next k = at-other f (spin m) 0 (next k) (omega arith)
+
   w-prev : (k : ℕ) → woken (prev k) ≡ f (prev k)
   unfolding woken
   w-prev k = at-other f (spin m) 0 (prev k) (omega arith)
+
   w-state : (k : ℕ) → woken (state k) ≡ f (state k)
   unfolding woken
   w-state k = at-other f (spin m) 0 (state k) (omega arith)
+
   w-spin : (k : ℕ) → (k ≡ m → ⊥) → woken (spin k) ≡ f (spin k)
   unfolding woken
   w-spin k h = at-other f (spin m) 0 (spin k) (omega arith)
@@ -132,7 +137,7 @@ w-cells f m V N a ja la d = cells-frame f (woken f m) (V d)
   where
     apart : link (V d) ≡ suc (node (V d)) → joined (V d) ≡ false → node (V d) ≡ m → ⊥
     apart q j e = ⊎-elim (λ h. clash (joined (V a)) ja (ap (λ (x : ℕ). joined (V x)) (sym h) ∙ j))
-      (λ z. omega arith) (N d a (q ∙ ap suc e ∙ sym la))
+        (λ z. omega arith) (N d a (q ∙ ap suc e ∙ sym la))
 
 -- the card that is first in line, by its link
 pub due-card : (f : ℕ → ℕ) (V : ℕ → View) (q : ℕ) (l : List ℕ) → Due f V q l → Chain f V 0 l
@@ -154,9 +159,10 @@ module _ (f : ℕ → ℕ) (V : ℕ → View) (l : List ℕ) (I : Line f V l) (c
       go (inr k) = at-it (k .2 c)
         where
           at-it : (c ≡ k .0) ⊎ (hand (V c) ≡ 0) → Due f V (suc m) l × ((e : ℕ) → (e ≡ c) ⊎ (hand (V e) ≡ 0))
-          at-it (inl e) =
-            ( subst (λ (x : ℕ). Due f V x l) (ap (λ (d : ℕ). hand (V d)) (sym e) ∙ ap hand is) (k .3)
-            , subst (λ (x : ℕ). (e : ℕ) → (e ≡ x) ⊎ (hand (V e) ≡ 0)) (sym e) (k .2) )
+          at-it (inl e) = (
+            subst (λ (x : ℕ). Due f V x l) (ap (λ (d : ℕ). hand (V d)) (sym e) ∙ ap hand is) (k .3),
+            subst (λ (x : ℕ). (e : ℕ) → (e ≡ x) ⊎ (hand (V e) ≡ 0)) (sym e) (k .2),
+          )
           at-it (inr z) = let y = sym (ap hand is) ∙ z in absurd (omega arith)
 
   hand-front : (p : ℕ) → Ok V p → Front f (woken f m) (who V p) (who (at V c away) p)
@@ -170,34 +176,46 @@ module _ (f : ℕ → ℕ) (V : ℕ → View) (l : List ℕ) (I : Line f V l) (c
       ((here, there), rw (hand-same a (h .0 .in-line)) (w-granted f m (V a) (h .0 .in-line) (sym (d .0))))
     where
       here : Spot (woken f m) away (at V c away a)
-      here = let P = h .0 in rw (hand-same a (P .in-line)) (record
-        { in-line = P .in-line; from = inl refl; ahead = λ r. w-prev f m (node (V a)) ∙ P .ahead r
-        ; turnw = λ _ _. refl; turnr = λ _ _. inl refl; aim = inl refl; owed = λ r _ _. cc })
+      here = let P = h .0 in rw (hand-same a (P .in-line)) (record {
+        in-line = P .in-line;
+        from = inl refl;
+        ahead = λ r. w-prev f m (node (V a)) ∙ P .ahead r;
+        turnw = λ _ _. refl;
+        turnr = λ _ _. inl refl;
+        aim = inl refl;
+        owed = λ r _ _. cc;
+      })
+
       -- a card behind the first has another node
       apart : (b : ℕ) → In b l → joined (V b) ≡ true → node (V b) ≡ m → ⊥
       apart b i j e = u .0 (subst (λ (x : ℕ). In x l) (holder V (I .nodes) a b m (sym (d .0)) j e) i)
+
       there : Chain (woken f m) (at V c away) (suc a) l
       there = chain-map f (woken f m) V (at V c away) l
-        (λ p b i o P. rw (hand-same b (P .in-line))
+          (λ p b i o P. rw (hand-same b (P .in-line))
           (seat-place f (woken f m) (who V p) (who (at V c away) p) (V b) (V b) (hand-front p o)
-            (seat-frame f (woken f m) (V b) (λ _. w-prev f m (node (V b)))
-              (w-spin f m (node (V b)) (apart b i (P .in-line)))) P))
-        (λ p o E. front-end f (woken f m) (who V p) (who (at V c away) p) (w-tail f m) (hand-front p o) E)
-        (suc a) (h .0 .in-line) (h .1)
+          (seat-frame f (woken f m) (V b) (λ _. w-prev f m (node (V b)))
+          (w-spin f m (node (V b)) (apart b i (P .in-line)))) P))
+          (λ p o E. front-end f (woken f m) (who V p) (who (at V c away) p) (w-tail f m) (hand-front p o) E)
+          (suc a) (h .0 .in-line) (h .1)
 
   pub hand-line : Line (woken f m) (at V c away) l
   hand-line =
-    let D = hand-due in let C = hand-chain l (I .once) (D .0) (I .chain) in
-    let A = due-card f V (suc m) l (D .0) (I .chain) in record
-    { nodes = nodes-at V c away (inr refl) (I .nodes)
-    ; cells = at-all (λ (d : ℕ) (v : View). Cells (woken f m) v) V c away tt
-        (λ d nd. w-cells f m V (I .nodes) (A .0) (A .1) (A .2) d (I .cells d))
-    ; members = at-all (λ (d : ℕ) (v : View). joined v ≡ true → In d l) V c away
-        (λ j. clash false j refl) (λ d _. I .members d)
-    ; once = I .once
-    ; chain = C .0
-    ; baton = inl (at-all (λ (d : ℕ) (v : View). hand v ≡ 0) V c away refl
-        (λ d nd. ⊎-elim (λ e. absurd (nd e)) (λ z. z) (D .1 d)), C .1) }
+      let D = hand-due in let C = hand-chain l (I .once) (D .0) (I .chain) in
+      let A = due-card f V (suc m) l (D .0) (I .chain) in record {
+        nodes = nodes-at V c away (inr refl) (I .nodes);
+        cells = at-all (λ (d : ℕ) (v : View). Cells (woken f m) v) V c away tt
+            (λ d nd. w-cells f m V (I .nodes) (A .0) (A .1) (A .2) d (I .cells d));
+        members = at-all (λ (d : ℕ) (v : View). joined v ≡ true → In d l) V c away
+            (λ j. clash false j refl) (λ d _. I .members d);
+        once = I .once;
+        chain = C .0;
+        baton = inl (
+          at-all (λ (d : ℕ) (v : View). hand v ≡ 0) V c away refl
+              (λ d nd. ⊎-elim (λ e. absurd (nd e)) (λ z. z) (D .1 d)),
+          C .1,
+        );
+      }
 
 -- a card in line changes in its place, from the view V c to u, and perhaps the one behind it: what is to be shown of
 -- the other fronts and seats, of the place behind the card or the end there, and of the cells
@@ -215,24 +233,24 @@ module _ (f g : ℕ → ℕ) (V : ℕ → View) (l : List ℕ) (I : Line f V l) 
 
   local-each : (p d : ℕ) → In d l → Ok V p → Spot f (who V p) (V d) → Spot g (who (at V c u) p) (at V c u d)
   local-each p d i o P = ⊎-elim
-    (λ e. subst (λ (x : ℕ). Spot g (who (at V c u) x) (at V c u d)) (sym e)
+      (λ e. subst (λ (x : ℕ). Spot g (who (at V c u) x) (at V c u d)) (sym e)
       (rw (at-same V c u) (behind d i (subst (λ (x : ℕ). Spot f (who V x) (V d)) e P))))
-    (λ n. seat-place f g (who V p) (who (at V c u) p) (V d) (at V c u d) (local-front p o n) (seat p d i o n P) P)
-    (cases-eq p (suc c))
+      (λ n. seat-place f g (who V p) (who (at V c u) p) (V d) (at V c u d) (local-front p o n) (seat p d i o n P) P)
+      (cases-eq p (suc c))
 
   local-end : (p : ℕ) → Ok V p → End f (who V p) → End g (who (at V c u) p)
   local-end p o E = ⊎-elim
-    (λ e. subst (λ (x : ℕ). End g (who (at V c u) x)) (sym e)
+      (λ e. subst (λ (x : ℕ). End g (who (at V c u) x)) (sym e)
       (rw (at-same V c u) (end (subst (λ (x : ℕ). End f (who V x)) e E))))
-    (λ n. front-end f g (who V p) (who (at V c u) p) tail (local-front p o n) E)
-    (cases-eq p (suc c))
+      (λ n. front-end f g (who V p) (who (at V c u) p) tail (local-front p o n) E)
+      (cases-eq p (suc c))
 
   local-hand : (d : ℕ) → hand (at V c u d) ≡ hand (V d)
   local-hand d = at-all (λ (d : ℕ) (v : View). hand v ≡ hand (V d)) V c u hu (λ d n. refl) d
 
   local-head : (h : ℕ) (k : List ℕ) → l ≡ h ∷ k → Seat f g (V h) (at V c u h)
   local-head h k e = seat 0 h (rw e (inl refl)) tt (omega arith)
-    (subst (λ (l : List ℕ). Chain f V 0 l) e (I .chain) .0)
+      (subst (λ (l : List ℕ). Chain f V 0 l) e (I .chain) .0)
 
   local-led : (k : List ℕ) → l ≡ k → Led f V k → Led g (at V c u) k
   local-led [] e h = tt
@@ -244,19 +262,23 @@ module _ (f g : ℕ → ℕ) (V : ℕ → View) (l : List ℕ) (I : Line f V l) 
 
   local-baton : Baton f V l → Baton g (at V c u) l
   local-baton (inl k) = inl (λ d. local-hand d ∙ k .0 d, local-led l refl (k .1))
-  local-baton (inr k) = inr
-    ( k .0, rw (local-hand (k .0)) (k .1), λ e. rw (local-hand e) (k .2 e)
-    , rw (local-hand (k .0)) (local-due l refl (hand (V (k .0))) (k .3)) )
+  local-baton (inr k) = inr (
+    k .0,
+    rw (local-hand (k .0)) (k .1),
+    λ e. rw (local-hand e) (k .2 e),
+    rw (local-hand (k .0)) (local-due l refl (hand (V (k .0))) (k .3)),
+  )
 
   pub local-line : Line g (at V c u) l
-  local-line = record
-    { nodes = nodes-at V c u (inl lu) (I .nodes)
-    ; cells = stand
-    ; members = at-all (λ (d : ℕ) (v : View). joined v ≡ true → In d l) V c u
-        (λ j. I .members c jc) (λ d _. I .members d)
-    ; once = I .once
-    ; chain = chain-map f g V (at V c u) l local-each local-end 0 tt (I .chain)
-    ; baton = local-baton (I .baton) }
+  local-line = record {
+    nodes = nodes-at V c u (inl lu) (I .nodes);
+    cells = stand;
+    members = at-all (λ (d : ℕ) (v : View). joined v ≡ true → In d l) V c u
+        (λ j. I .members c jc) (λ d _. I .members d);
+    once = I .once;
+    chain = chain-map f g V (at V c u) l local-each local-end 0 tt (I .chain);
+    baton = local-baton (I .baton);
+  }
 
 -- who is in line and may not be in waits, and its state says which
 pub waits-reader : (f : ℕ → ℕ) (v : View) → joined v ≡ true → granted f v ≡ false → Cells f v
@@ -290,51 +312,67 @@ node-is v m j e = let q = joined-link v j in omega arith
 -- the one behind is a reader that waits: it will be woken
 see-wakes : (f : ℕ → ℕ) (v : View) (n m : ℕ) → Cells f v → f (state m) ≡ 1 → Spot f (seesR n (suc m)) v
     → Spot f (wakesR n (suc m)) v
-see-wakes f v n m k e P = let A = aimed f (seesR n (suc m)) v m P refl in record
-  { in-line = P .in-line; from = P .from; ahead = P .ahead; turnw = P .turnw; turnr = P .turnr; owed = P .owed
-  ; aim = inr (sym (A .0), A .1, λ _. waits-reader f v (P .in-line) (A .1) k .1
-      (ap (λ (x : ℕ). f (state x)) (node-is v m (P .in-line) (A .0)) ∙ e)) }
+see-wakes f v n m k e P = let A = aimed f (seesR n (suc m)) v m P refl in record {
+  in-line = P .in-line;
+  from = P .from;
+  ahead = P .ahead;
+  turnw = P .turnw;
+  turnr = P .turnr;
+  owed = P .owed;
+  aim = inr (
+    sym (A .0),
+    A .1,
+    λ _. waits-reader f v (P .in-line) (A .1) k .1
+        (ap (λ (x : ℕ). f (state x)) (node-is v m (P .in-line) (A .0)) ∙ e),
+  );
+}
 
 -- the one behind is no reader that waits: nothing is owed to it
 see-in : (f : ℕ → ℕ) (v : View) (n m : ℕ) → Cells f v → (f (state m) ≡ 1 → ⊥) → Spot f (seesR n (suc m)) v
     → Spot f (activeR n) v
-see-in f v n m k e P = let A = aimed f (seesR n (suc m)) v m P refl in record
-  { in-line = P .in-line; from = P .from; ahead = P .ahead; turnw = P .turnw; turnr = P .turnr; aim = inl refl
-  ; owed = λ _ r g. absurd (e
+see-in f v n m k e P = let A = aimed f (seesR n (suc m)) v m P refl in record {
+  in-line = P .in-line;
+  from = P .from;
+  ahead = P .ahead;
+  turnw = P .turnw;
+  turnr = P .turnr;
+  aim = inl refl;
+  owed = λ _ r g. absurd (e
       (ap (λ (x : ℕ). f (state x)) (sym (node-is v m (P .in-line) (A .0)))
-        ∙ waits-reader f v (P .in-line) (A .1) k .0 r)) }
+      ∙ waits-reader f v (P .in-line) (A .1) k .0 r));
+}
 
 -- no cell changes, and one card keeps its own side
 same-seat : (f : ℕ → ℕ) (V : ℕ → View) (c : ℕ) (u : View) → Seat f f (V c) u → (d : ℕ) → Seat f f (V d) (at V c u d)
 same-seat f V c u s d = at-all (λ (d : ℕ) (x : View). Seat f f (V d) x) V c u s
-  (λ d _. seat-frame f f (V d) (λ _. refl) refl) d
+    (λ d _. seat-frame f f (V d) (λ _. refl) refl) d
 
 -- an active reader has looked at the one behind it
 module _ (f : ℕ → ℕ) (V : ℕ → View) (l : List ℕ) (I : Line f V l) (c n m : ℕ) (is : V c ≡ seesR n (suc m)) where
   not-me : (d : ℕ) → Spot f (V c) (V d) → d ≡ c → ⊥
   not-me d P e = clash (granted f (V d)) (ap (λ (x : ℕ). granted f (V x)) e ∙ ap (granted f) is)
-    (aimed f (V c) (V d) m P (ap target is) .1)
+      (aimed f (V c) (V d) m P (ap target is) .1)
 
   see-with : (u : View) → joined u ≡ true → link u ≡ suc n → hand u ≡ 0 → Seat f f (seesR n (suc m)) u → Cells f u
-    → ((v : View) → Cells f v → Spot f (seesR n (suc m)) v → Spot f u v) → Line f (at V c u) l
+      → ((v : View) → Cells f v → Spot f (seesR n (suc m)) v → Spot f u v) → Line f (at V c u) l
   see-with u ju lu hu s k move = local-line f f V l I c u
-    (ap joined is) ju (lu ∙ sym (ap link is)) (hu ∙ sym (ap hand is)) refl
-    (λ d _ _. front-frame f f (V d) refl)
-    (λ p d i o np P. same-seat f V c u (rw is s) d)
-    (λ d i P. rw (at-other V c u d (not-me d P))
+      (ap joined is) ju (lu ∙ sym (ap link is)) (hu ∙ sym (ap hand is)) refl
+      (λ d _ _. front-frame f f (V d) refl)
+      (λ p d i o np P. same-seat f V c u (rw is s) d)
+      (λ d i P. rw (at-other V c u d (not-me d P))
       (move (V d) (I .cells d) (subst (λ (x : View). Spot f x (V d)) is P)))
-    (λ E. let z = sym (ap target is) ∙ E .aimless in absurd (omega arith))
-    (at-all (λ (d : ℕ) (v : View). Cells f v) V c u k (λ d _. I .cells d))
+      (λ E. let z = sym (ap target is) ∙ E .aimless in absurd (omega arith))
+      (at-all (λ (d : ℕ) (v : View). Cells f v) V c u k (λ d _. I .cells d))
 
   pub see-line-wakes : f (state m) ≡ 1 → Line f (at V c (wakesR n (suc m))) l
   see-line-wakes e = see-with (wakesR n (suc m)) refl refl refl
-    (record { joins = refl; links = refl; reads = refl; grants = refl; prevs = λ _. refl })
-    (subst (Cells f) is (I .cells c)) (λ v k. see-wakes f v n m k e)
+      (record { joins = refl; links = refl; reads = refl; grants = refl; prevs = λ _. refl })
+      (subst (Cells f) is (I .cells c)) (λ v k. see-wakes f v n m k e)
 
   pub see-line-in : (f (state m) ≡ 1 → ⊥) → Line f (at V c (activeR n)) l
   see-line-in e = see-with (activeR n) refl refl refl
-    (record { joins = refl; links = refl; reads = refl; grants = refl; prevs = λ _. refl })
-    (subst (Cells f) is (I .cells c)) (λ v k. see-in f v n m k e)
+      (record { joins = refl; links = refl; reads = refl; grants = refl; prevs = λ _. refl })
+      (subst (Cells f) is (I .cells c)) (λ v k. see-in f v n m k e)
 
 -- behind one that is neither away nor an active reader nobody may be in
 pub blocked : (f : ℕ → ℕ) (p v : View) → Spot f p v → active p ≡ false → (link p ≡ 0 → ⊥) → granted f v ≡ false
@@ -353,18 +391,23 @@ module _ (f : ℕ → ℕ) (n : ℕ) where
   l-tail : lit 0 ≡ f 0
   unfolding lit
   l-tail = at-other f (state n) 3 0 (omega arith)
+
   l-next : (k : ℕ) → lit (next k) ≡ f (next k)
   unfolding lit
   l-next k = at-other f (state n) 3 (next k) (omega arith)
+
   l-prev : (k : ℕ) → lit (prev k) ≡ f (prev k)
   unfolding lit
   l-prev k = at-other f (state n) 3 (prev k) (omega arith)
+
   l-spin : (k : ℕ) → lit (spin k) ≡ f (spin k)
   unfolding lit
   l-spin k = at-other f (state n) 3 (spin k) (omega arith)
+
   l-state : (k : ℕ) → (k ≡ n → ⊥) → lit (state k) ≡ f (state k)
   unfolding lit
   l-state k h = at-other f (state n) 3 (state k) (omega arith)
+
   l-here : lit (state n) ≡ 3
   unfolding lit
   l-here = at-same f (state n) 3
@@ -379,7 +422,7 @@ module _ (f : ℕ → ℕ) (V : ℕ → View) (l : List ℕ) (I : Line f V l) (c
 
   lit-next : (d : ℕ) → Spot f (V c) (V d) → f (next n) ≡ link (V d)
   lit-next d P = ⊎-elim (λ z. let y = sym (ap link is) ∙ z in absurd (omega arith))
-    (λ e. ap (λ (v : View). f (next (node v))) (sym is) ∙ e) (P .from)
+      (λ e. ap (λ (v : View). f (next (node v))) (sym is) ∙ e) (P .from)
 
   lit-last : (link (V c) ≡ 0) ⊎ (f (next (node (V c))) ≡ 0) → f (next n) ≡ 0
   lit-last (inl z) = let y = sym (ap link is) ∙ z in absurd (omega arith)
@@ -391,12 +434,12 @@ module _ (f : ℕ → ℕ) (V : ℕ → View) (l : List ℕ) (I : Line f V l) (c
 
   lit-cells : (d : ℕ) → (d ≡ c → ⊥) → Cells (lit f n) (V d)
   lit-cells d nd = let k = node (V d) in cells-frame f (lit f n) (V d) (λ q. l-state f n k (lit-apart d nd q))
-    (λ _ _. l-spin f n k) (λ _ _. l-next f n k) (λ _ _. l-prev f n k) (I .cells d)
+      (λ _ _. l-spin f n k) (λ _ _. l-next f n k) (λ _ _. l-prev f n k) (I .cells d)
 
   -- it goes on as u, whose target is what its next names
   lit-with : (u : View) → joined u ≡ true → link u ≡ suc n → node u ≡ n → reader u ≡ true
-    → granted (lit f n) u ≡ true → hand u ≡ 0 → target u ≡ f (next n) → active u ≡ true → waking u ≡ false
-    → Cells (lit f n) u → Line (lit f n) (at V c u) l
+      → granted (lit f n) u ≡ true → hand u ≡ 0 → target u ≡ f (next n) → active u ≡ true → waking u ≡ false
+      → Cells (lit f n) u → Line (lit f n) (at V c u) l
   lit-with u ju lu nu ru gu hu tu au wu k = local-line f (lit f n) V l I c u
       (ap joined is) ju (lu ∙ sym (ap link is)) (hu ∙ sym (ap hand is)) (l-tail f n)
       (λ d _ _. front-frame f (lit f n) (V d) (l-next f n (node (V d))))
@@ -404,29 +447,39 @@ module _ (f : ℕ → ℕ) (V : ℕ → View) (l : List ℕ) (I : Line f V l) (c
       behind end (at-all (λ (d : ℕ) (v : View). Cells (lit f n) v) V c u k lit-cells)
     where
       seat : Seat f (lit f n) (V c) u
-      seat = rw is (record
-        { joins = ju; links = lu; reads = ru; grants = gu
-        ; prevs = λ _. ap (λ (x : ℕ). lit f n (prev x)) nu ∙ l-prev f n n })
+      seat = rw is (record {
+        joins = ju;
+        links = lu;
+        reads = ru;
+        grants = gu;
+        prevs = λ _. ap (λ (x : ℕ). lit f n (prev x)) nu ∙ l-prev f n n;
+      })
+
       others : (d : ℕ) → (d ≡ c → ⊥) → Seat f (lit f n) (V d) (V d)
       others d _ = seat-frame f (lit f n) (V d) (λ _. l-prev f n (node (V d))) (l-spin f n (node (V d)))
+
       my-next : lit f n (next (node u)) ≡ f (next n)
       my-next = ap (λ (x : ℕ). lit f n (next x)) nu ∙ l-next f n n
+
       behind : (d : ℕ) → In d l → Spot f (V c) (V d) → Spot (lit f n) u (at V c u d)
       behind d i P =
-        let b = granted-frame f (lit f n) (V d) (l-spin f n (node (V d))) ∙ lit-blocked d P in
-        rw (at-other V c u d (lit-not-me d P)) (record
-        { in-line = P .in-line
-        ; from = inr (my-next ∙ lit-next d P)
-        ; ahead = λ r. l-prev f n (node (V d)) ∙ P .ahead r ∙ ap link is ∙ sym lu
-        ; turnw = λ _ t. clash (granted (lit f n) (V d)) t b
-        ; turnr = λ _ t. clash (granted (lit f n) (V d)) t b
-        ; aim = inr (tu ∙ lit-next d P, b, λ w. clash (waking u) w wu)
-        ; owed = λ _ _ _. tu ∙ lit-next d P })
+          let b = granted-frame f (lit f n) (V d) (l-spin f n (node (V d))) ∙ lit-blocked d P in
+          rw (at-other V c u d (lit-not-me d P)) (record {
+            in-line = P .in-line;
+            from = inr (my-next ∙ lit-next d P);
+            ahead = λ r. l-prev f n (node (V d)) ∙ P .ahead r ∙ ap link is ∙ sym lu;
+            turnw = λ _ t. clash (granted (lit f n) (V d)) t b;
+            turnr = λ _ t. clash (granted (lit f n) (V d)) t b;
+            aim = inr (tu ∙ lit-next d P, b, λ w. clash (waking u) w wu);
+            owed = λ _ _ _. tu ∙ lit-next d P;
+          })
+
       end : End f (V c) → End (lit f n) u
-      end E = record
-        { tail = l-tail f n ∙ E .tail ∙ ap link is ∙ sym lu
-        ; last = inr (my-next ∙ lit-last (E .last))
-        ; aimless = tu ∙ lit-last (E .last) }
+      end E = record {
+        tail = l-tail f n ∙ E .tail ∙ ap link is ∙ sym lu;
+        last = inr (my-next ∙ lit-last (E .last));
+        aimless = tu ∙ lit-last (E .last);
+      }
 
   pub lit-line-in : f (next n) ≡ 0 → Line (lit f n) (at V c (activeR n)) l
   lit-line-in e = lit-with (activeR n) refl refl refl refl refl refl (sym e) refl refl (l-here f n)
@@ -441,22 +494,22 @@ module _ (f : ℕ → ℕ) (V : ℕ → View) (l : List ℕ) (I : Line f V l) (c
 
   wake-not-me : (d : ℕ) → Spot f (V c) (V d) → d ≡ c → ⊥
   wake-not-me d P e = clash (granted f (V d)) (ap (λ (x : ℕ). granted f (V x)) e ∙ ap (granted f) is)
-    (wake-aimed d P .1)
+      (wake-aimed d P .1)
 
   -- the card right behind
   wake-card : (d : ℕ) × In d l × Spot f (V c) (V d)
   wake-card = ⊎-elim (λ E. let z = sym (ap target is) ∙ E .aimless in absurd (omega arith)) (λ w. w)
-    (chain-behind f V l 0 (I .chain) c (I .members c (ap joined is)))
+      (chain-behind f V l 0 (I .chain) c (I .members c (ap joined is)))
 
   -- the woken node is that of the card right behind, of no other
   wake-apart : (p d : ℕ) → Ok V p → (p ≡ suc c → ⊥) → Spot f (who V p) (V d) → node (V d) ≡ m → ⊥
   wake-apart p d o np P e =
-    let W = wake-card in let A = wake-aimed (W .0) (W .2) in
-    let h = holder V (I .nodes) (W .0) d m (A .0) (P .in-line) e in
-    let r : reader (V d) ≡ true = ap (λ (x : ℕ). reader (V x)) h ∙ A .2 in
-    let k : f (prev (node (V d))) ≡ suc n =
-          ap (λ (x : ℕ). f (prev (node (V x)))) h ∙ W .2 .ahead (A .2) ∙ ap link is in
-    go p o np (sym (P .ahead r) ∙ k)
+      let W = wake-card in let A = wake-aimed (W .0) (W .2) in
+      let h = holder V (I .nodes) (W .0) d m (A .0) (P .in-line) e in
+      let r : reader (V d) ≡ true = ap (λ (x : ℕ). reader (V x)) h ∙ A .2 in
+      let k : f (prev (node (V d))) ≡ suc n =
+      ap (λ (x : ℕ). f (prev (node (V x)))) h ∙ W .2 .ahead (A .2) ∙ ap link is in
+      go p o np (sym (P .ahead r) ∙ k)
     where
       go : (p : ℕ) → Ok V p → (p ≡ suc c → ⊥) → link (who V p) ≡ suc n → ⊥
       go zero o np k = omega arith
@@ -467,29 +520,33 @@ module _ (f : ℕ → ℕ) (V : ℕ → View) (l : List ℕ) (I : Line f V l) (c
       (ap joined is) refl (sym (ap link is)) (sym (ap hand is)) (w-tail f m)
       (λ d _ _. front-frame f (woken f m) (V d) (w-next f m (node (V d))))
       (λ p d i o np P. at-all (λ (d : ℕ) (x : View). (node (V d) ≡ m → ⊥) → Seat f (woken f m) (V d) x)
-        V c (activeR n) (λ _. seat) others d (wake-apart p d o np P))
+      V c (activeR n) (λ _. seat) others d (wake-apart p d o np P))
       behind (λ E. let z = sym (ap target is) ∙ E .aimless in absurd (omega arith))
       (at-all (λ (d : ℕ) (v : View). Cells (woken f m) v) V c (activeR n)
-        (w-state f m n ∙ subst (Cells f) is (I .cells c))
-        (λ d nd. let W = wake-card in
-          w-cells f m V (I .nodes) (W .0) (W .2 .in-line) (wake-aimed (W .0) (W .2) .0) d (I .cells d)))
+      (w-state f m n ∙ subst (Cells f) is (I .cells c))
+      (λ d nd. let W = wake-card in
+      w-cells f m V (I .nodes) (W .0) (W .2 .in-line) (wake-aimed (W .0) (W .2) .0) d (I .cells d)))
     where
       seat : Seat f (woken f m) (V c) (activeR n)
       seat = rw is (record
-        { joins = refl; links = refl; reads = refl; grants = refl; prevs = λ _. w-prev f m n })
+          { joins = refl; links = refl; reads = refl; grants = refl; prevs = λ _. w-prev f m n })
+
       others : (d : ℕ) → (d ≡ c → ⊥) → (node (V d) ≡ m → ⊥) → Seat f (woken f m) (V d) (V d)
       others d _ h = seat-frame f (woken f m) (V d) (λ _. w-prev f m (node (V d))) (w-spin f m (node (V d)) h)
+
       linked : (d : ℕ) → Spot f (V c) (V d) → woken f m (next n) ≡ link (V d)
       linked d P = ⊎-elim (λ z. let y = sym (ap link is) ∙ z in absurd (omega arith))
-        (λ e. w-next f m n ∙ ap (λ (v : View). f (next (node v))) (sym is) ∙ e) (P .from)
+          (λ e. w-next f m n ∙ ap (λ (v : View). f (next (node v))) (sym is) ∙ e) (P .from)
+
       behind : (d : ℕ) → In d l → Spot f (V c) (V d) → Spot (woken f m) (activeR n) (at V c (activeR n) d)
       behind d i P =
-        let A = wake-aimed d P in let b = w-granted f m (V d) (P .in-line) (A .0) in
-        rw (at-other V c (activeR n) d (wake-not-me d P)) (record
-        { in-line = P .in-line
-        ; from = inr (linked d P)
-        ; ahead = λ r. w-prev f m (node (V d)) ∙ P .ahead r ∙ ap link is
-        ; turnw = λ r _. clash (reader (V d)) (A .2) r
-        ; turnr = λ _ _. inr refl
-        ; aim = inl refl
-        ; owed = λ _ _ t. clash (granted (woken f m) (V d)) b t })
+          let A = wake-aimed d P in let b = w-granted f m (V d) (P .in-line) (A .0) in
+          rw (at-other V c (activeR n) d (wake-not-me d P)) (record {
+            in-line = P .in-line;
+            from = inr (linked d P);
+            ahead = λ r. w-prev f m (node (V d)) ∙ P .ahead r ∙ ap link is;
+            turnw = λ r _. clash (reader (V d)) (A .2) r;
+            turnr = λ _ _. inr refl;
+            aim = inl refl;
+            owed = λ _ _ t. clash (granted (woken f m) (V d)) b t;
+          })

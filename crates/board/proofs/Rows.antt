@@ -39,12 +39,12 @@ Row c s (call.Load d a) = (d ≡ c) × (in-tx s ≡ false) × ((v : ℕ) → in-
 Row c s (call.Store d a x) = (d ≡ c) × (in-tx s ≡ false) × ((v : ℕ) → in-tx (goes s v .0) ≡ false)
 Row c s (call.Begin d) = (d ≡ c) × (in-tx s ≡ false) × ((v : ℕ) → Holds (goes s v .0) [] [])
 Row c s (call.Read d a) =
-  (d ≡ c) × (in-tx s ≡ true) × (value-in (writes s) a ≡ None)
-  × (marking (cells (reads s)) a ≡ Some (cells (reads s) ++ a ∷ []))
-  × ((v : ℕ) → Holds (goes s v .0) (reads s ++ mk a v ∷ []) (writes s))
+    (d ≡ c) × (in-tx s ≡ true) × (value-in (writes s) a ≡ None)
+    × (marking (cells (reads s)) a ≡ Some (cells (reads s) ++ a ∷ []))
+    × ((v : ℕ) → Holds (goes s v .0) (reads s ++ mk a v ∷ []) (writes s))
 Row c s (call.Write d a x) =
-  (d ≡ c) × (in-tx s ≡ true) × (recording (writes s) a x ≡ Some (writes s ++ mk a x ∷ []))
-  × ((v : ℕ) → Holds (goes s v .0) (reads s) (writes s ++ mk a x ∷ []))
+    (d ≡ c) × (in-tx s ≡ true) × (recording (writes s) a x ≡ Some (writes s ++ mk a x ∷ []))
+    × ((v : ℕ) → Holds (goes s v .0) (reads s) (writes s ++ mk a x ∷ []))
 Row c s (call.Commit d) = (d ≡ c) × (in-tx s ≡ true) × ((v : ℕ) → in-tx (goes s v .0) ≡ false)
 Row c s (call.Drop d) = ⊥
 
@@ -74,7 +74,7 @@ row-of N K c (ReaderEnters n (R5 zero)) h = absurd (h .1)
 row-of N K c (ReaderEnters n (R5 (suc m))) h = (refl, refl, grind (arith, tells), λ v. (refl, refl, refl))
 row-of N K c (ReaderEnters n (R6 zero)) h = absurd (h .1)
 row-of N K c (ReaderEnters n (R6 (suc m))) h =
-  (refl, refl, grind (arith, tells), grind (arith, tells), λ v. (refl, refl, refl))
+    (refl, refl, grind (arith, tells), grind (arith, tells), λ v. (refl, refl, refl))
 row-of N K c (ReaderEnters n (R7 zero s)) h = (refl, refl, λ v. refl)
 row-of N K c (ReaderEnters n (R7 (suc m) s)) h = (refl, refl, λ v. grind (arith, tells))
 row-of N K c (ReaderEnters n R8) h = (refl, refl, elim [ zero ↦ refl | suc v ↦ refl ])
@@ -109,7 +109,7 @@ row-of N K c (ReaderLeaves n (Y5 zero (suc k))) h = (refl, refl, refl, λ v. (re
 row-of N K c (ReaderLeaves n (Y5 (suc m) (suc k))) h = (refl, refl, grind (arith, tells), λ v. (refl, refl, refl))
 row-of N K c (ReaderLeaves n (Y6 zero zero)) h = absurd (h .2)
 row-of N K c (ReaderLeaves n (Y6 zero (suc k))) h =
-  (refl, refl, grind (arith, tells), grind (arith, tells), λ v. (refl, refl, refl))
+    (refl, refl, grind (arith, tells), grind (arith, tells), λ v. (refl, refl, refl))
 row-of N K c (ReaderLeaves n (Y6 (suc m) q)) h = let e = h .1 in absurd (omega arith)
 row-of N K c (ReaderLeaves n (Y7 p zero s)) h = (refl, refl, λ v. refl)
 row-of N K c (ReaderLeaves n (Y7 zero (suc k) s)) h = (refl, refl, λ v. grind (arith, tells))
@@ -197,10 +197,10 @@ writes-below N K (ReaderEnters n (R4 p)) h = (omega arith, tt)
 writes-below N K (ReaderEnters n (R5 p)) h = let n-in = h .0 in (omega arith, (omega arith, tt))
 writes-below N K (ReaderEnters n (R6 zero)) h = tt
 writes-below N K (ReaderEnters n (R6 (suc m))) h =
-  let n-in = h .0 in let m-in = h .1 in (omega arith, (omega arith, (omega arith, tt)))
+    let n-in = h .0 in let m-in = h .1 in (omega arith, (omega arith, (omega arith, tt)))
 writes-below N K (ReaderEnters n (R7 zero s)) h = (omega arith, tt)
 writes-below N K (ReaderEnters n (R7 (suc m) s)) h =
-  let n-in = h .0 in let m-in = h .1 in (omega arith, (omega arith, (omega arith, tt)))
+    let n-in = h .0 in let m-in = h .1 in (omega arith, (omega arith, (omega arith, tt)))
 writes-below N K (ReaderEnters n R8) h = tt
 writes-below N K (ReaderEnters n R9) h = tt
 writes-below N K (ReaderEnters n R10) h = tt
@@ -228,7 +228,7 @@ writes-below N K (ReaderLeaves n (Y7 zero zero s)) h = (omega arith, tt)
 writes-below N K (ReaderLeaves n (Y7 zero (suc k) s)) h = let k-in = h .2 in (omega arith, tt)
 writes-below N K (ReaderLeaves n (Y7 (suc m) zero s)) h = let m-in = h .1 in (omega arith, (omega arith, tt))
 writes-below N K (ReaderLeaves n (Y7 (suc m) (suc k) s)) h =
-  let m-in = h .1 in let k-in = h .2 in (omega arith, (omega arith, tt))
+    let m-in = h .1 in let k-in = h .2 in (omega arith, (omega arith, tt))
 writes-below N K (ReaderLeaves n (Y8 q)) h = tt
 writes-below N K (Adds n (A1 k x)) h = tt
 writes-below N K (Adds n (A2 k x v)) h = tt
@@ -243,7 +243,7 @@ pub recorded : (N K : ℕ) (f : ℕ → ℕ) (s : Stage) (x : Tx) → N ≤ 32 �
 recorded N K f s none l h k = tt
 recorded N K f s doomed l h k = tt
 recorded N K f s (live r w) l h k =
-  rw (k .2) (below-more (1 + 4 * N) 137 (omega arith) (writes s) (writes-below N K s h))
+    rw (k .2) (below-more (1 + 4 * N) 137 (omega arith) (writes s) (writes-below N K s h))
 
 -- a stage's call, if it has one, is one of card c on a cell that there is
 abbrev RangedOf : ℕ → Option MemoryCall → Type 0

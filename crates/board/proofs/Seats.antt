@@ -33,7 +33,7 @@ cards-without c [] = refl
 cards-without c (p ∷ l) = go (eqb (p .card) c) (cards-without c l)
   where
     go : (b : Bool) → cards-of (without c l) ≡ chain.without c (cards-of l)
-      → cards-of (cond b l (p ∷ without c l)) ≡ cond b (cards-of l) (p .card ∷ chain.without c (cards-of l))
+        → cards-of (cond b l (p ∷ without c l)) ≡ cond b (cards-of l) (p .card ∷ chain.without c (cards-of l))
     go true h = refl
     go false h = ap (λ (k : List ℕ). p .card ∷ k) h
 
@@ -48,20 +48,21 @@ cards-lined c (finishes k a) l = refl
 pub seated-same : (S : ℕ → Stage) (c : ℕ) (s : Stage) (l : List Place) → Same-seat (S c) s
     → Seated S l → Seated (at S c s) l
 seated-same S c s [] e h = tt
-seated-same S c s (p ∷ l) e h =
-  ( at-all (λ (d : ℕ) (x : Stage). link (view (S d)) ≡ suc (p .node) → link (view x) ≡ suc (p .node)) S c s
-      (λ q. e .0 ∙ q) (λ d _ q. q) (p .card) (h .0)
-  , at-all (λ (d : ℕ) (x : Stage). reader (view (S d)) ≡ reads-mode (p .mode)
+seated-same S c s (p ∷ l) e h = (
+  at-all (λ (d : ℕ) (x : Stage). link (view (S d)) ≡ suc (p .node) → link (view x) ≡ suc (p .node)) S c s
+      (λ q. e .0 ∙ q) (λ d _ q. q) (p .card) (h .0),
+  at-all (λ (d : ℕ) (x : Stage). reader (view (S d)) ≡ reads-mode (p .mode)
       → reader (view x) ≡ reads-mode (p .mode))
-      S c s (λ q. e .1 ∙ q) (λ d _ q. q) (p .card) (h .1)
-  , seated-same S c s l e (h .2) )
+      S c s (λ q. e .1 ∙ q) (λ d _ q. q) (p .card) (h .1),
+  seated-same S c s l e (h .2),
+)
 
 -- a card changes that is not in line
 pub seated-other : (S : ℕ → Stage) (c : ℕ) (s : Stage) (l : List Place) → (In c (cards-of l) → ⊥)
     → Seated S l → Seated (at S c s) l
 seated-other S c s [] n h = tt
 seated-other S c s (p ∷ l) n h = let e = at-other S c s (p .card) (λ q. n (inl (sym q))) in
-  (rw e (h .0), rw e (h .1), seated-other S c s l (λ i. n (inr i)) (h .2))
+    (rw e (h .0), rw e (h .1), seated-other S c s l (λ i. n (inr i)) (h .2))
 
 -- one more place, with the node and the mode of its card
 seated-join : (S : ℕ → Stage) (p : Place) (l : List Place) → link (view (S (p .card))) ≡ suc (p .node)
@@ -84,29 +85,30 @@ module _ (f : ℕ → ℕ) (S : ℕ → Stage) (l : List Place) (L : Line f (vie
   out-of-line j i = clash (joined (view (S c))) (chain-joined f (views S) (cards-of l) 0 (L .chain) c i) j
 
   seated-plain : (s : Stage) (b : Bool) → joined (view (S c)) ≡ b → (joined (view (S c)) ≡ true → Same-seat (S c) s)
-    → Seated (at S c s) l
+      → Seated (at S c s) l
   seated-plain s true j k = seated-same S c s l (k j) h
   seated-plain s false j k = seated-other S c s l (out-of-line j) h
 
   seated-deed : (d : Deed) (s : Stage) → Seat-after d (S c) s → Seated (at S c s) (lined c d l)
   seated-deed plain s k = seated-plain s (joined (view (S c))) refl k
   seated-deed (joins n m) s k = seated-join (at S c s) (record { card = c; node = n; mode = m }) l
-    (rw (at-same S c s) (k .1)) (rw (at-same S c s) (k .2)) (seated-other S c s l (out-of-line (k .0)) h)
+      (rw (at-same S c s) (k .1)) (rw (at-same S c s) (k .2)) (seated-other S c s l (out-of-line (k .0)) h)
   seated-deed parts s k = seated-other S c s (without c l)
-    (λ i. without-gone c (cards-of l) (L .once) (subst (In c) (cards-without c l) i)) (seated-without S c l h)
+      (λ i. without-gone c (cards-of l) (L .once) (subst (In c) (cards-without c l) i)) (seated-without S c l h)
   seated-deed (finishes j a) s k = seated-same S c s l k h
 
   pub seated-step : (r : Result ℕ MemoryFault)
-    → Seated (at S c (advanced (S c) r .0)) (lined c (cond (accepted r) (deed (S c)) plain) l)
+      → Seated (at S c (advanced (S c) r .0)) (lined c (cond (accepted r) (deed (S c)) plain) l)
   seated-step (Ok v) = seated-deed (deed (S c)) (goes (S c) v .0) (seat-goes (S c) v)
   seated-step (Err e) = go (e .refusal)
     where
       stays : Same-seat (S c) (S c)
       stays = (refl, refl)
+
       go : (r : Refusal) → Seated (at S c (returns-by (S c) e r .0)) l
       go OutOfRange = seated-same S c (S c) l stays h
       go Already = seated-same S c (S c) l stays h
       go NoTransaction = seated-same S c (S c) l stays h
       go Doomed = seated-same S c (begin-of (S c)) l
-        (ap link (view-begin (S c)), ap reader (view-begin (S c))) h
+          (ap link (view-begin (S c)), ap reader (view-begin (S c))) h
       go Full = seated-same S c (S c) l stays h

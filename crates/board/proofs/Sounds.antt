@@ -155,7 +155,7 @@ pub read-answer : (c a : ℕ) (f : ℕ → ℕ) (t : ℕ → Tx) (s : Stage) (x 
 read-answer c a f t s none r k v h = clash (in-tx s) (r .1) k
 read-answer c a f t s doomed r k v h = cc
 read-answer c a f t s (live m w) r k v h =
-  one-value (value-seen c a f t m w (value-in w a) .answer) v (f a) h (rw (k .1, k .2, r .2, r .3))
+    one-value (value-seen c a f t m w (value-in w a) .answer) v (f a) h (rw (k .1, k .2, r .2, r .3))
 
 module _ (N K : ℕ) (f : ℕ → ℕ) (S : ℕ → Stage) (l : List ℕ) (L : Line f (λ d. view (S d)) l)
     (sound : (d : ℕ) → Sound N K (S d)) (c : ℕ) where
@@ -167,22 +167,22 @@ module _ (N K : ℕ) (f : ℕ → ℕ) (S : ℕ → Stage) (l : List ℕ) (L : L
   -- so is the tail
   tail-in : f 0 ≤ N
   tail-in =
-    let w = chain-end f (λ d. view (S d)) l 0 tt (L .chain) in
-    let h = who-link (w .0) in let e = w .2 .tail in omega arith
+      let w = chain-end f (λ d. view (S d)) l 0 tt (L .chain) in
+      let h = who-link (w .0) in let e = w .2 .tail in omega arith
 
   -- so is the next of a card in line
   next-in : joined (view (S c)) ≡ true → (link (view (S c)) ≡ 0 → ⊥) → f (next (node (view (S c)))) ≤ N
   next-in j n = ⊎-elim
-    (λ E. ⊎-elim (λ z. absurd (n z)) (λ z. omega arith) (E .last))
-    (λ w. let b = link-sound N K (S (w .0)) (sound (w .0)) in
+      (λ E. ⊎-elim (λ z. absurd (n z)) (λ z. omega arith) (E .last))
+      (λ w. let b = link-sound N K (S (w .0)) (sound (w .0)) in
       ⊎-elim (λ z. absurd (n z)) (λ z. omega arith) (w .2 .from))
-    (chain-behind f (λ d. view (S d)) l 0 (L .chain) c (L .members c j))
+      (chain-behind f (λ d. view (S d)) l 0 (L .chain) c (L .members c j))
 
   -- so is the prev of a reader in line
   prev-in : joined (view (S c)) ≡ true → views.reader (view (S c)) ≡ true → f (prev (node (view (S c)))) ≤ N
   prev-in j r =
-    let w = chain-place f (λ d. view (S d)) l (L .chain) c (L .members c j) in
-    let h = who-link (w .0) in let e = w .2 .ahead r in omega arith
+      let w = chain-place f (λ d. view (S d)) l (L .chain) c (L .members c j) in
+      let h = who-link (w .0) in let e = w .2 .ahead r in omega arith
 
   -- a value read from the tail is such a link
   got-tail : (v : ℕ) → v ≡ f 0 → v ≤ N
@@ -227,17 +227,17 @@ module _ (N K : ℕ) (f : ℕ → ℕ) (S : ℕ → Stage) (l : List ℕ) (L : L
   sound-goes (ReaderEnters n R9) e h v g = h
   sound-goes (ReaderEnters n R10) e h v g = h
   sound-goes (ReaderEnters n R11) e h v g =
-    (h, got-next (ReaderEnters n R11) e refl (λ z. omega arith) v (g (next n) refl))
+      (h, got-next (ReaderEnters n R11) e refl (λ z. omega arith) v (g (next n) refl))
   sound-goes (ReaderEnters n (R12 zero)) e h v g = h .0
   sound-goes (ReaderEnters n (R12 (suc m))) e h v g = let i = h .1 in (h .0, omega arith)
   sound-goes (ReaderEnters n (R13 q)) e h v g =
-    sound-cond N K (eqb v reader) (ReaderEnters n (R14 q), Step) (Inside n mode.Read, In) h (h .0)
+      sound-cond N K (eqb v reader) (ReaderEnters n (R14 q), Step) (Inside n mode.Read, In) h (h .0)
   sound-goes (ReaderEnters n (R14 q)) e h v g = h .0
   sound-goes (Inside n mode.Write) e h v g = h
   sound-goes (Inside n mode.Read) e h v g = h
   sound-goes (WriterLeaves n X1) e h v g = h
   sound-goes (WriterLeaves n X2) e h v g =
-    (h, got-next (WriterLeaves n X2) e refl (λ z. omega arith) v (g (next n) refl))
+      (h, got-next (WriterLeaves n X2) e refl (λ z. omega arith) v (g (next n) refl))
   sound-goes (WriterLeaves n (X3 q)) e h v g = h
   sound-goes (WriterLeaves n (X4 zero)) e h v g = tt
   sound-goes (WriterLeaves n (X4 (suc m))) e h v g = let i = h .1 in (h .0, omega arith)
@@ -245,10 +245,10 @@ module _ (N K : ℕ) (f : ℕ → ℕ) (S : ℕ → Stage) (l : List ℕ) (L : L
   sound-goes (ReaderLeaves n Y1) e h v g = h
   sound-goes (ReaderLeaves n Y2) e h v g = (h, got-prev (ReaderLeaves n Y2) e refl refl v (g (prev n) refl))
   sound-goes (ReaderLeaves n (Y3 zero)) e h v g =
-    (h .0, h .1, got-next (ReaderLeaves n (Y3 zero)) e refl (λ z. omega arith) v (g (next n) refl))
+      (h .0, h .1, got-next (ReaderLeaves n (Y3 zero)) e refl (λ z. omega arith) v (g (next n) refl))
   sound-goes (ReaderLeaves n (Y3 (suc m))) e h v g =
-    let i = h .1 in
-    (h .0, omega arith, got-next (ReaderLeaves n (Y3 (suc m))) e refl (λ z. omega arith) v (g (next n) refl))
+      let i = h .1 in
+      (h .0, omega arith, got-next (ReaderLeaves n (Y3 (suc m))) e refl (λ z. omega arith) v (g (next n) refl))
   sound-goes (ReaderLeaves n (Y4 p q)) e h v g = (h .0, named-link N p (h .1), h .2)
   sound-goes (ReaderLeaves n (Y5 p zero)) e h v g = h
   sound-goes (ReaderLeaves n (Y5 zero (suc k))) e h v g = let i = h .2 in (h .0, refl, omega arith)
@@ -256,8 +256,8 @@ module _ (N K : ℕ) (f : ℕ → ℕ) (S : ℕ → Stage) (l : List ℕ) (L : L
   sound-goes (ReaderLeaves n (Y6 p t)) e h v g = let i = h .1 in (h .0, omega arith, named-link N t (h .2))
   sound-goes (ReaderLeaves n (Y7 p zero s)) e h v g = tt
   sound-goes (ReaderLeaves n (Y7 zero (suc k) s)) e h v g =
-    let i = h .2 in
-    sound-cond N K (eqb s writer) (ReaderLeaves n (Y8 (suc k)), Step) (Idle, Out) (h .0, omega arith) tt
+      let i = h .2 in
+      sound-cond N K (eqb s writer) (ReaderLeaves n (Y8 (suc k)), Step) (Idle, Out) (h .0, omega arith) tt
   sound-goes (ReaderLeaves n (Y7 (suc m) (suc k) s)) e h v g = tt
   sound-goes (ReaderLeaves n (Y8 q)) e h v g = tt
   sound-goes (Adds n (A1 k x)) e h v g = h
@@ -270,8 +270,9 @@ module _ (N K : ℕ) (f : ℕ → ℕ) (S : ℕ → Stage) (l : List ℕ) (L : L
     where
       got : (v : ℕ) → seen c k f t .answer ≡ Ok v → (a : ℕ) → call-of N c (S c) ≡ Some (call.Read c a) → v ≡ f a
       got v q a p = read-answer c a f t (S c) (t c) (row N K c (S c) (sound c) (call.Read c a) p) h v
-        (subst (λ (k : MemoryCall). seen c k f t .answer ≡ Ok v)
+          (subst (λ (k : MemoryCall). seen c k f t .answer ≡ Ok v)
           (one-call k (call.Read c a) (call-of N c (S c)) e p) q)
+
       go : (r : Result ℕ MemoryFault) → seen c k f t .answer ≡ r → Sound N K (advanced (S c) r .0)
       go (Ok v) q = sound-goes (S c) refl (sound c) v (got v q)
       go (Err x) q = sound-returns N K (S c) x (x .refusal) (sound c)

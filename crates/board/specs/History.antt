@@ -59,4 +59,4 @@ nodes-of l = map (λ p. p .node) l
 -- the place and the count that the line call gives are the book's line, for every history
 abbrev pub Lines-up : Size → DoorState → List ℕ → ℕ → Type 0
 Lines-up z s place count = (cs : List Call) → Follows z cs s
-  → (place ≡ placed (nodes-of (fed z cs .line))) × (count ≡ length (fed z cs .line))
+    → (place ≡ placed (nodes-of (fed z cs .line))) × (count ≡ length (fed z cs .line))

@@ -9,5 +9,5 @@ returns g c =
     record {
       moves = c .call .ensures .moves;
       same = ap size-of (c .call .ensures .same);
-      promise = carries _ (within-of (c .args .self .now .door .lock .sizes)) _ _ _ _ (c .call .ensures .moves)
+      promise = carries _ (within-of (c .args .self .now .door .lock .sizes)) _ _ _ _ (c .call .ensures .moves);
     }

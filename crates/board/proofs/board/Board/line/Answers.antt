@@ -9,5 +9,5 @@ returns g c =
       count = c .line .ensures .count;
       promise =
           lines-up _ (within-of (c .args .self .now .door .lock .sizes)) _ _ _ (c .line .ensures .nodes)
-          (c .line .ensures .count)
+          (c .line .ensures .count);
     }

@@ -9,5 +9,5 @@ returns g c =
     record {
       moves = c .run .ensures .moves;
       same = ap size-of (c .run .ensures .same);
-      promise = carries-all _ (within-of (c .args .self .now .door .lock .sizes)) _ _ _ (c .run .ensures .moves)
+      promise = carries-all _ (within-of (c .args .self .now .door .lock .sizes)) _ _ _ (c .run .ensures .moves);
     }
