@@ -1,7 +1,7 @@
 ghost use mathlib.Core.Path.{_≡_};
 ghost use Rattle.std.specs.declared.result.Result.the-variants.{Ok};
+use deferred::calls::DeferredMemory;
 use deferred::deferred::Deferred;
-use deferred::deferring::DeferredMemory;
 use memory::fault::MemoryFault;
 use memory::memory::Memory;
 use std::io;
