@@ -43,7 +43,8 @@ module _ (a : Access) (card cell : ℕ) (cells : List ℕ) (txs : List Transacti
     below = rw (length-map txs (tx-in cells)) (omega arith)
 
     -- whether the transaction at i conflicts, by the meaning
-    seen : (t : Transaction) → conflicts a cell (getD (meant cs ts .txs) i none) ≡ conflicts a cell (tx-kept (getD ts i t))
+    seen : (t : Transaction)
+        → conflicts a cell (getD (meant cs ts .txs) i none) ≡ conflicts a cell (tx-kept (getD ts i t))
     seen t =
         ap (conflicts a cell) (getD-map (tx-in cs) ts i t none h) ∙ conflicts-in cs a cell (getD ts i t)
 

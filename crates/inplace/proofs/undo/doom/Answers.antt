@@ -34,7 +34,8 @@ loop-i-again c =
     elim (c .if-i-card .came) [
       | then-i-card·then-conflicts w ↦
           is (landed cs (undo-of t)) (c .if-i-card .cells) (set ts i Doomed) (c .if-i-card .txs)
-          (w .cells-is ∙ (w .put-back .ensures ∙ ap (landed cs) (w .saved .ensures ∙ ap undo-of (sym (c .index-txs-i .is)))))
+          (w .cells-is
+          ∙ (w .put-back .ensures ∙ ap (landed cs) (w .saved .ensures ∙ ap undo-of (sym (c .index-txs-i .is)))))
           (w .txs-is)
           (done-doom (a .how) (a .card) (a .cell) cells txs i cs ts D h l t (w .if-i-card .taken) (c .index-txs-i .is)
           (sym (w .if-conflicts .ensures tt)))

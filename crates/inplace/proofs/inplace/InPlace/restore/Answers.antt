@@ -13,9 +13,10 @@ pub ghost-self : need.ghost-self
 ghost-self c =
     let e = c .args .self .now in
     let t = c .index-self-card in
-    let h : c .args .card < length (e .txs) = search needs in (
+    let card = c .args .card in
+    let h : card < length (e .txs) = search needs in (
       search needs,
-      (restored-apart (e .cells) (e .txs) (c .args .card) (t .result) (c .args .to) h (t .is) (c .pre .bare) (e .apart), tt),
+      (restored-apart (e .cells) (e .txs) card (t .result) (c .args .to) h (t .is) (c .pre .bare) (e .apart), tt),
     )
 
 pub returns : need.returns

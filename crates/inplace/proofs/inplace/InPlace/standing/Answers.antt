@@ -32,7 +32,8 @@ returns-in-Some c =
     let n = e .eight in
     let h : i < length ts = omega arith in
     let step = at-drop-more (λ l. value-in (undoes l) cell) ts i t h in
-    let here = value-append (undo-of (getD ts i t)) (undoes (drop (i + 1) ts)) cell old (sym (c .in-Some .ensures tt)) in
+    let here =
+    value-append (undo-of (getD ts i t)) (undoes (drop (i + 1) ts)) cell old (sym (c .in-Some .ensures tt)) in
     let k : cell < length (e .cells) = search needs in
     sym (landed-at (e .cells) (undoes ts) cell old (e .apart) k (c .loop-tx .inv ∙ (step ∙ here)))
 

@@ -66,9 +66,10 @@ returns c =
     let ws = map (written (e .cells)) (undo-log (a .log)) in
     let new : Write = record { cell = a .cell; value = a .value } in
     let own = λ (l : List Write). live (marks-in (a .log)) (l ++ new ∷ []) in
+    let size = ap (λ l. length (map back l)) (sym (c .saved .ensures .value)) in
     let n : length ws < 4 =
     rw (length-map (undo-log (a .log)) (written (e .cells)))
-    (omega (arith, ap (λ l. length (map back l)) (sym (c .saved .ensures .value)), length-map (c .saved .result .now) back)) in
+    (omega (arith, size, length-map (c .saved .result .now) back)) in
     let r : recording ws (a .cell) (a .value) ≡ Some (ws ++ new ∷ []) =
     cond-false _ _ _
     (wrote-written (e .cells) (undo-log (a .log)) (a .cell) ∙ (sym (c .wrote .ensures) ∙ c .if-wrote .left))
