@@ -1,5 +1,5 @@
+pub mod calls;
 pub mod deferred;
-pub mod deferring;
 pub(crate) mod doom;
 pub(crate) mod land;
 pub(crate) mod log;

@@ -1,0 +1,8 @@
+mod Assigns
+mod Conflicts
+mod Dooms
+mod Means
+mod Own
+mod Restores
+mod Saves
+mod Undoes

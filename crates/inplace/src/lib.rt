@@ -1,0 +1,8 @@
+pub(crate) mod accesses;
+pub mod calls;
+pub mod inplace;
+pub(crate) mod log;
+pub(crate) mod logging;
+pub(crate) mod saved;
+pub(crate) mod serving;
+pub(crate) mod undo;
