@@ -102,8 +102,10 @@ served z s c (Show k) = shown z s c k
 
 -- the answer given and remembered
 abbrev pub noted : DoorState → ℕ → ℕ → Request → Turn → Reply
-noted s c t w p =
-    (told (p .0), record { lock = p .1; memos = set (s .memos) c (record { toggle = t; request = Some w; answer = p .0 }) })
+noted s c t w p = (
+  told (p .0),
+  record { lock = p .1; memos = set (s .memos) c (record { toggle = t; request = Some w; answer = p .0 }) },
+)
 
 abbrev pub judged : Size → DoorState → ℕ → ℕ → Result Request DoorFault → Reply
 judged z s c t (Ok w) =

@@ -39,7 +39,8 @@ impl<M: Memory> Door<M> {
     pub fn reuse(&mut self, card: u16, node: u16, values: NodeValues) -> Result<Answer, DoorFault>
         ensures moves { λ r. ⌜ (r, door-state meaning (now (self .exit)))
             ≡ passed (door-state meaning (now (self .entry)))
-            (reused (door-size (now (self .entry))) (lock-state meaning (now (self .entry) .lock)) card node values) ⌝ }
+            (reused (door-size (now (self .entry))) (lock-state meaning (now (self .entry) .lock))
+            card node values) ⌝ }
         ensures same { λ _. ⌜ now (self .exit) .lock .sizes ≡ now (self .entry) .lock .sizes ⌝ }
     {
         Ok(self.lock.reuse(usize::from(card), node, values)?)

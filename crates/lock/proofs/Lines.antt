@@ -7,7 +7,8 @@ use native.Mathlib.Omega.{arith}
 use native.Mathlib.Numerals.{add-one, unary-clauses}
 use lib.ListN.{length, getD, drop, take, set, replicate, length-set}
 use lib.Seq.{drop-cons}
-use Rattle.std.proofs.shelf.Lists.{at-drop-more, at-drop-all, take-more-set, drop-set-lt, take-append-drop, length-take-le}
+use Rattle.std.proofs.shelf.Lists.{at-drop-more, at-drop-all, take-more-set, drop-set-lt}
+use Rattle.std.proofs.shelf.Lists.{take-append-drop, length-take-le}
 use Rattle.stages.specs.declared.stage.Card.{Card}
 use Rattle.memory.specs.Meaning.{Meaning}
 use Rattle.lock.specs.Lock.{idle-card}
@@ -79,7 +80,9 @@ filling-turn m line k link next place lt ne b f =
       size = length-set place k (link - 1) ∙ f .size;
       within = omega arith;
       done = rw (b, take-more-set place k (link - 1) lt′, append-assoc, ← w, ← e) (f .done);
-      rest = drop-set-lt (k + 1) place k (link - 1) (omega arith) ∙ rest-more place k (8 - (k + 1)) lt′ (rw e at (f .rest));
+      rest =
+          drop-set-lt (k + 1) place k (link - 1) (omega arith)
+          ∙ rest-more place k (8 - (k + 1)) lt′ (rw e at (f .rest));
     }
 
 -- what the loop leaves

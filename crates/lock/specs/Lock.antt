@@ -26,10 +26,12 @@ use Rattle.stages.specs.declared.stage.Addition.the-variants.{A1}
 use Rattle.stages.specs.declared.stage.WriterExit.the-variants.{X1}
 use Rattle.stages.specs.declared.stage.ReaderExit.the-variants.{Y1}
 use Rattle.stages.specs.declared.stage.Stage.{Stage}
-use Rattle.stages.specs.declared.stage.Stage.the-variants.{Idle, WriterEnters, ReaderEnters, Inside, Adds, WriterLeaves, ReaderLeaves}
+use Rattle.stages.specs.declared.stage.Stage.the-variants.{Idle, WriterEnters, ReaderEnters, Inside, Adds}
+use Rattle.stages.specs.declared.stage.Stage.the-variants.{WriterLeaves, ReaderLeaves}
 use Rattle.stages.specs.declared.stage.Card.{Card}
 use Rattle.stages.specs.Layout.{node-cell, counter-cell, reader, writer}
-use Rattle.stages.specs.Rows.{call-of, begin-of, in-transaction, writer-entry-goes, reader-entry-goes, addition-goes, writer-exit-goes, reader-exit-goes}
+use Rattle.stages.specs.Rows.{call-of, begin-of, in-transaction}
+use Rattle.stages.specs.Rows.{writer-entry-goes, reader-entry-goes, addition-goes, writer-exit-goes, reader-exit-goes}
 use Rattle.lock.specs.declared.values.NodeValues.{NodeValues}
 use Rattle.lock.specs.declared.fault.SizeFault.{SizeFault}
 use Rattle.lock.specs.declared.fault.SizeFault.the-variants as size
@@ -49,8 +51,9 @@ within most x = cond (leb 1 x) (leb x most) false
 -- the sizes that a board may have: 1 to 8 cards, 1 to 32 nodes, 1 to 8 counters
 abbrev pub sized : ℕ → ℕ → ℕ → Result Size SizeFault
 sized c n k =
-    cond (within 8 c) (cond (within 32 n) (cond (within 8 k)
-    (Ok (record { cards = c; nodes = n; counters = k })) (Err size.OutOfRange)) (Err size.OutOfRange)) (Err size.OutOfRange)
+    cond (cond (within 8 c) (cond (within 32 n) (within 8 k) false) false)
+    (Ok (record { cards = c; nodes = n; counters = k }))
+    (Err size.OutOfRange)
 
 -- the memory's meaning, and the records of the eight cards that there may be
 pub record LockState : Type 0 where
@@ -240,7 +243,8 @@ shown z s c k = of-card z s c (inside-by s (show-at z s c k) (stage-of s c))
 
 abbrev pub reuse-stores : ℕ → NodeValues → List (ℕ × ℕ)
 reuse-stores n v =
-    (node-cell n Next, v .next) ∷ (node-cell n Prev, v .prev) ∷ (node-cell n State, v .state) ∷ (node-cell n Spin, v .spin) ∷ []
+    (node-cell n Next, v .next) ∷ (node-cell n Prev, v .prev)
+    ∷ (node-cell n State, v .state) ∷ (node-cell n Spin, v .spin) ∷ []
 
 abbrev pub reuse-by : LockState → Result (Unit {0}) LockFault × Meaning → Turn
 reuse-by s p = elim (p .0) [ Ok u ↦ (Ok Done, kept s (p .1)) | Err f ↦ (Err f, kept s (p .1)) ]

@@ -18,39 +18,18 @@ pub(crate) fn advance(
 ) -> Result<Answer, LockFault>
     ensures { λ r. ⌜ (now (card .exit) .stage, r) ≡ advanced (now (card .entry) .stage) outcome ⌝ }
 {
-    match (card.stage, outcome) {
-        (stage, Err(fault)) => {
-            let Refusal::Doomed = fault.refusal else {
-                return Err(LockFault::Memory { fault });
-            };
-            card.stage = begin_of(stage);
-            Ok(Answer::Lost)
-        }
-        (Stage::WriterEnters { node, at }, Ok(value)) => {
-            let (stage, answer) = at.goes(node, value);
-            card.stage = stage;
-            Ok(answer)
-        }
-        (Stage::ReaderEnters { node, at }, Ok(value)) => {
-            let (stage, answer) = at.goes(node, value);
-            card.stage = stage;
-            Ok(answer)
-        }
-        (Stage::Adds { node, at }, Ok(value)) => {
-            let (stage, answer) = at.goes(node, value);
-            card.stage = stage;
-            Ok(answer)
-        }
-        (Stage::WriterLeaves { node, at }, Ok(value)) => {
-            let (stage, answer) = at.goes(node, value);
-            card.stage = stage;
-            Ok(answer)
-        }
-        (Stage::ReaderLeaves { node, at }, Ok(value)) => {
-            let (stage, answer) = at.goes(node, value);
-            card.stage = stage;
-            Ok(answer)
-        }
-        (Stage::Idle | Stage::Inside { .. }, Ok(_)) => Err(LockFault::NotAllowed),
-    }
+    let answer;
+    (card.stage, answer) = match (card.stage, outcome) {
+        (stage, Err(fault)) => match fault.refusal {
+            Refusal::Doomed => (begin_of(stage), Answer::Lost),
+            _ => return Err(LockFault::Memory { fault }),
+        },
+        (Stage::WriterEnters { node, at }, Ok(value)) => at.goes(node, value),
+        (Stage::ReaderEnters { node, at }, Ok(value)) => at.goes(node, value),
+        (Stage::Adds { node, at }, Ok(value)) => at.goes(node, value),
+        (Stage::WriterLeaves { node, at }, Ok(value)) => at.goes(node, value),
+        (Stage::ReaderLeaves { node, at }, Ok(value)) => at.goes(node, value),
+        (Stage::Idle | Stage::Inside { .. }, Ok(_)) => return Err(LockFault::NotAllowed),
+    };
+    Ok(answer)
 }

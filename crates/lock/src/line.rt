@@ -65,7 +65,7 @@ fn behind<M: Memory>(memory: &M, link: u16) -> u16
     }
 }
 
-// Whether a card in line has a node whose next is the link.
+// Whether a card is in line, on a node whose next is the link.
 fn points_to<M: Memory>(memory: &M, stage: Stage, link: u16) -> bool
     ensures { λ r. ⌜ r ≡ points (meaning (now (memory .entry))) stage link ⌝ }
 {
@@ -73,7 +73,7 @@ fn points_to<M: Memory>(memory: &M, stage: Stage, link: u16) -> bool
     here != 0 && behind(memory, here) == link
 }
 
-// Whether a card in line has a node whose next is the link.
+// Whether some card in line points to the link.
 fn has_ahead<M: Memory>(memory: &M, cards: &[Card; 8], link: u16) -> bool
     ensures { λ r. ⌜ r ≡ has-ahead (meaning (now (memory .entry))) (now (cards .entry)) link ⌝ }
 {

@@ -71,7 +71,8 @@ impl<M: Memory> Lock<M> {
     // A card inside to write stands at the first row of an add.
     pub fn add(&mut self, card: usize, counter: u16, amount: u16) -> Result<Answer, LockFault>
         ensures moves { λ r. ⌜ (r, lock-state meaning (now (self .exit)))
-            ≡ added (size-of (now (self .entry) .sizes)) (lock-state meaning (now (self .entry))) card counter amount ⌝ }
+            ≡ added (size-of (now (self .entry) .sizes)) (lock-state meaning (now (self .entry)))
+            card counter amount ⌝ }
         ensures same { λ _. ⌜ now (self .exit) .sizes ≡ now (self .entry) .sizes ⌝ }
     {
         if !self.sizes.has_card(card) {

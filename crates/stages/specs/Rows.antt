@@ -7,7 +7,8 @@ use Rattle.std.specs.declared.option.Option.the-variants.{Some, None}
 use Rattle.std.specs.declared.result.Result.{Result}
 use Rattle.std.specs.declared.result.Result.the-variants.{Ok, Err}
 use Rattle.memory.specs.declared.call.MemoryCall.{MemoryCall}
-use Rattle.memory.specs.declared.call.MemoryCall.the-variants.{Clear, Look, Load, Store, Begin, Read, Write, Commit, Drop}
+use Rattle.memory.specs.declared.call.MemoryCall.the-variants.{Clear, Look, Load, Store}
+use Rattle.memory.specs.declared.call.MemoryCall.the-variants.{Begin, Read, Write, Commit, Drop}
 use Rattle.stages.specs.declared.answer.Answer.{Answer}
 use Rattle.stages.specs.declared.answer.Answer.the-variants.{Step, Wait, In, Out, Added}
 use Rattle.stages.specs.declared.layout.Field.the-variants.{Next, Prev, State, Spin}
@@ -15,7 +16,8 @@ use Rattle.stages.specs.declared.stage.Mode.the-variants as mode
 use Rattle.stages.specs.declared.stage.WriterEntry.{WriterEntry}
 use Rattle.stages.specs.declared.stage.WriterEntry.the-variants.{W1, W2, W3, W4, W5, W6}
 use Rattle.stages.specs.declared.stage.ReaderEntry.{ReaderEntry}
-use Rattle.stages.specs.declared.stage.ReaderEntry.the-variants.{R1, R2, R3, R4, R5, R6, R7, R8, R9, R10, R11, R12, R13, R14}
+use Rattle.stages.specs.declared.stage.ReaderEntry.the-variants.{R1, R2, R3, R4, R5, R6, R7}
+use Rattle.stages.specs.declared.stage.ReaderEntry.the-variants.{R8, R9, R10, R11, R12, R13, R14}
 use Rattle.stages.specs.declared.stage.Addition.{Addition}
 use Rattle.stages.specs.declared.stage.Addition.the-variants.{A1, A2}
 use Rattle.stages.specs.declared.stage.WriterExit.{WriterExit}
@@ -23,7 +25,8 @@ use Rattle.stages.specs.declared.stage.WriterExit.the-variants.{X1, X2, X3, X4
 use Rattle.stages.specs.declared.stage.ReaderExit.{ReaderExit}
 use Rattle.stages.specs.declared.stage.ReaderExit.the-variants.{Y1, Y2, Y3, Y4, Y5, Y6, Y7, Y8}
 use Rattle.stages.specs.declared.stage.Stage.{Stage}
-use Rattle.stages.specs.declared.stage.Stage.the-variants.{Idle, WriterEnters, ReaderEnters, Inside, Adds, WriterLeaves, ReaderLeaves}
+use Rattle.stages.specs.declared.stage.Stage.the-variants.{Idle, WriterEnters, ReaderEnters, Inside, Adds}
+use Rattle.stages.specs.declared.stage.Stage.the-variants.{WriterLeaves, ReaderLeaves}
 use Rattle.stages.specs.Layout.{tail, link, node-cell, cell-of, counter-cell, reader, writer, active}
 
 -- the smaller of 65,535 and the sum
