@@ -14,6 +14,7 @@ pub use events::SizeLines;
 pub use faults::FormFault;
 pub use faults::FormFaultDebug;
 pub use faults::FormFaultDisplay;
+pub use sections::line_of_event;
 pub use sections::take_count;
 pub use sections::take_end;
 pub use sections::take_event;
