@@ -1,0 +1,10 @@
+pub mod access;
+pub mod call;
+pub mod fault;
+pub mod marking;
+pub mod marks;
+pub mod memory;
+pub mod range;
+pub mod replay;
+pub mod search;
+pub mod write;
