@@ -47,7 +47,7 @@ at-all {A} P f c u here there d = go (cases-eq d c)
 pub at-all2 : {A B : Type 0} (P : ℕ → A → B → Type 0) (f : ℕ → A) (g : ℕ → B) (c : ℕ) (u : A) (s : B)
     → P c u s → ((d : ℕ) → (d ≡ c → ⊥) → P d (f d) (g d)) → (d : ℕ) → P d (at f c u d) (at g c s d)
 at-all2 {A} {B} P f g c u s here there d =
-  at-all (λ (d : ℕ) (x : A). P d x (at g c s d)) f c u
+    at-all (λ (d : ℕ) (x : A). P d x (at g c s d)) f c u
     (rw (at-same g c s) here) (λ d p. rw (at-other g c s d p) (there d p)) d
 
 -- a test that is both true and false

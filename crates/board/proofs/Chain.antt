@@ -130,6 +130,7 @@ module _ (f g : ℕ → ℕ) (V U : ℕ → View) (me : ℕ)
       later : (c ≡ me → ⊥) → (me ≡ c) ⊎ In me l → In me l
       later n (inl e) = absurd (n (sym e))
       later n (inr j) = j
+
       go : (c ≡ me) ⊎ (c ≡ me → ⊥) → ((suc c ≡ suc me → ⊥) → In me l → Chain g U (suc c) (without me l)) → Chain g U p (without me (c ∷ l))
       go (inl e) ih = rw (eq-eqb c me e) (after-me l p np (subst (λ (x : ℕ). In x l → ⊥) e (u .0)) o (subst (λ (x : ℕ). Spot f (who V p) (V x)) e (h .0)) (subst (λ (x : ℕ). Chain f V (suc x) l) e (h .1)))
       go (inr n) ih = rw (ne-eqb c me n) (each p c np n o (h .0), ih (λ e. n (omega arith)) (later n i))
@@ -145,7 +146,7 @@ Due f V q (c ∷ l) = (q ≡ link (V c)) × (granted f (V c) ≡ false)
 -- the first in line may be in, or just one card that has left will wake it
 abbrev pub Baton : (ℕ → ℕ) → (ℕ → View) → List ℕ → Type 0
 Baton f V l = (((d : ℕ) → hand (V d) ≡ 0) × Led f V l)
-  ⊎ ((d : ℕ) × (hand (V d) ≡ 0 → ⊥) × ((e : ℕ) → (e ≡ d) ⊎ (hand (V e) ≡ 0)) × Due f V (hand (V d)) l)
+    ⊎ ((d : ℕ) × (hand (V d) ≡ 0 → ⊥) × ((e : ℕ) → (e ≡ d) ⊎ (hand (V e) ≡ 0)) × Due f V (hand (V d)) l)
 
 abbrev pub Nodes : (ℕ → View) → Type 0
 Nodes V = (c d : ℕ) → link (V c) ≡ link (V d) → (c ≡ d) ⊎ (link (V c) ≡ 0)
@@ -180,20 +181,22 @@ from-kept a b x y k e (inr h) (inl m) = inl (e ∙ m)
 from-kept a b x y k e (inr h) (inr m) = inr (h ∙ m)
 
 pub seat-place : (f g : ℕ → ℕ) (p o v u : View) → Front f g p o → Seat f g v u → Spot f p v → Spot g o u
-seat-place f g p o v u A L P = record
-  { in-line = L .joins ∙ P .in-line
-  ; from = from-kept (link o) (link p) (g (next (node o))) (f (next (node p))) (link u) (A .link-is) (A .next-is) (rw (L .links) (P .from))
-  ; ahead = λ r. L .prevs (sym (L .reads) ∙ r) ∙ P .ahead (sym (L .reads) ∙ r) ∙ sym (A .link-is)
-  ; turnw = rw (L .reads, L .grants, A .link-is) (P .turnw)
-  ; turnr = rw (L .reads, L .grants, A .link-is, A .active-is) (P .turnr)
-  ; aim = rw (L .links, L .reads, L .grants, A .target-is, A .waking-is) (P .aim)
-  ; owed = rw (L .links, L .reads, L .grants, A .target-is, A .active-is) (P .owed) }
+seat-place f g p o v u A L P = record {
+  in-line = L .joins ∙ P .in-line;
+  from = from-kept (link o) (link p) (g (next (node o))) (f (next (node p))) (link u) (A .link-is) (A .next-is) (rw (L .links) (P .from));
+  ahead = λ r. L .prevs (sym (L .reads) ∙ r) ∙ P .ahead (sym (L .reads) ∙ r) ∙ sym (A .link-is);
+  turnw = rw (L .reads, L .grants, A .link-is) (P .turnw);
+  turnr = rw (L .reads, L .grants, A .link-is, A .active-is) (P .turnr);
+  aim = rw (L .links, L .reads, L .grants, A .target-is, A .waking-is) (P .aim);
+  owed = rw (L .links, L .reads, L .grants, A .target-is, A .active-is) (P .owed);
+}
 
 pub front-end : (f g : ℕ → ℕ) (p o : View) → g 0 ≡ f 0 → Front f g p o → End f p → End g o
-front-end f g p o t A E = record
-  { tail = t ∙ E .tail ∙ sym (A .link-is)
-  ; last = from-kept (link o) (link p) (g (next (node o))) (f (next (node p))) 0 (A .link-is) (A .next-is) (E .last)
-  ; aimless = A .target-is ∙ E .aimless }
+front-end f g p o t A E = record {
+  tail = t ∙ E .tail ∙ sym (A .link-is);
+  last = from-kept (link o) (link p) (g (next (node o))) (f (next (node p))) 0 (A .link-is) (A .next-is) (E .last);
+  aimless = A .target-is ∙ E .aimless;
+}
 
 -- two views that the line cannot tell apart; of one that is not in line only its hand counts
 pub record Like (f g : ℕ → ℕ) (v u : View) : Type 0 where
@@ -224,11 +227,12 @@ baton-like f g V U L l h (inr k) = inr (k .0, rw (L (k .0) .holds) (k .1), λ e.
 -- nothing that the line sees has changed
 pub like-line : (f g : ℕ → ℕ) (V U : ℕ → View) (l : List ℕ) → ((d : ℕ) → Like f g (V d) (U d)) → g 0 ≡ f 0
     → Nodes U → ((c : ℕ) → Cells g (U c)) → Line f V l → Line g U l
-like-line f g V U l L t n k I = record
-  { nodes = n
-  ; cells = k
-  ; members = λ c j. I .members c (sym (L c .joins) ∙ j)
-  ; once = I .once
-  ; chain = chain-map f g V U l (λ p c i o P. seat-place f g (who V p) (who U p) (V c) (U c) (like-who f g V U L p o) (L c .seat (P .in-line)) P)
-      (λ p o e. front-end f g (who V p) (who U p) t (like-who f g V U L p o) e) 0 tt (I .chain)
-  ; baton = baton-like f g V U L l (I .chain) (I .baton) }
+like-line f g V U l L t n k I = record {
+  nodes = n;
+  cells = k;
+  members = λ c j. I .members c (sym (L c .joins) ∙ j);
+  once = I .once;
+  chain = chain-map f g V U l (λ p c i o P. seat-place f g (who V p) (who U p) (V c) (U c) (like-who f g V U L p o) (L c .seat (P .in-line)) P)
+      (λ p o e. front-end f g (who V p) (who U p) t (like-who f g V U L p o) e) 0 tt (I .chain);
+  baton = baton-like f g V U L l (I .chain) (I .baton);
+}

@@ -32,7 +32,7 @@ reads-mode Write = false
 abbrev pub Seated : (ℕ → Stage) → List Place → Type 0
 Seated S [] = Unit {0}
 Seated S (p ∷ l) =
-  (link (view (S (p .card))) ≡ suc (p .node)) × (reader (view (S (p .card))) ≡ reads-mode (p .mode)) × Seated S l
+    (link (view (S (p .card))) ≡ suc (p .node)) × (reader (view (S (p .card))) ≡ reads-mode (p .mode)) × Seated S l
 
 -- the lock's part: lengths, transactions, the line of the cards ls, who is not there, and the numbers kept
 pub record Kept (z : Size) (s : LockState) (ls : List ℕ) : Type 0 where

@@ -143,12 +143,12 @@ deed-by m g (Some k) = cond (accepted (performed m k .answer)) (deed g) plain
 
 abbrev pub step-deed : Size → LockState → ℕ → Deed
 step-deed z s c =
-  cond (ltb c (z .cards)) (deed-by (s .meaning) (stage-of s c) (call-of (z .nodes) c (stage-of s c))) plain
+    cond (ltb c (z .cards)) (deed-by (s .meaning) (stage-of s c) (call-of (z .nodes) c (stage-of s c))) plain
 
 -- the request that five numbers make, where it is neither refused nor a resend
 abbrev pub new-request : Size → DoorState → ℕ → ℕ → Result Request DoorFault → Option Request
 new-request z s c t (Ok w) =
-  cond (eqb (memo-of s c .toggle) t) None (cond (accepted (served z (s .lock) c w .0)) (Some w) None)
+    cond (eqb (memo-of s c .toggle) t) None (cond (accepted (served z (s .lock) c w .0)) (Some w) None)
 new-request z s c t (Err e) = None
 
 abbrev pub taken-request : Size → DoorState → ℕ → ℕ → ℕ → ℕ → ℕ → Option Request
@@ -172,21 +172,39 @@ noted-add c (Some (Show k)) l = l
 -- the book after a call
 abbrev pub after : Size → Book → Call → Book
 after z b (call.Request c t k x y) =
-  let w = taken-request z (b .board) c t k x y in record
-  { board = called z (b .board) (call.Request c t k x y) .1
-  ; line = b .line; finished = b .finished; joinings = b .joinings
-  ; entries = noted-entry c w (b .entries); asked = noted-add c w (b .asked) }
+    let w = taken-request z (b .board) c t k x y in record {
+      board = called z (b .board) (call.Request c t k x y) .1;
+      line = b .line;
+      finished = b .finished;
+      joinings = b .joinings;
+      entries = noted-entry c w (b .entries);
+      asked = noted-add c w (b .asked);
+    }
 after z b (call.Step c) =
-  let d = step-deed z (b .board .lock) c in record
-  { board = called z (b .board) (call.Step c) .1
-  ; line = lined c d (b .line); finished = summed c d (b .finished); joinings = joined c d (b .joinings)
-  ; entries = b .entries; asked = b .asked }
-after z b (call.Abort c) = record
-  { board = called z (b .board) (call.Abort c) .1
-  ; line = b .line; finished = b .finished; joinings = b .joinings; entries = b .entries; asked = b .asked }
-after z b (call.Reuse c n v) = record
-  { board = called z (b .board) (call.Reuse c n v) .1
-  ; line = b .line; finished = b .finished; joinings = b .joinings; entries = b .entries; asked = b .asked }
+    let d = step-deed z (b .board .lock) c in record {
+      board = called z (b .board) (call.Step c) .1;
+      line = lined c d (b .line);
+      finished = summed c d (b .finished);
+      joinings = joined c d (b .joinings);
+      entries = b .entries;
+      asked = b .asked;
+    }
+after z b (call.Abort c) = record {
+  board = called z (b .board) (call.Abort c) .1;
+  line = b .line;
+  finished = b .finished;
+  joinings = b .joinings;
+  entries = b .entries;
+  asked = b .asked;
+}
+after z b (call.Reuse c n v) = record {
+  board = called z (b .board) (call.Reuse c n v) .1;
+  line = b .line;
+  finished = b .finished;
+  joinings = b .joinings;
+  entries = b .entries;
+  asked = b .asked;
+}
 
 -- the book after a list of calls, the first first
 abbrev pub fed-from : Size → Book → List Call → Book

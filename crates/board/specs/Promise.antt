@@ -98,13 +98,13 @@ No-step d (call.Reuse c n v ∷ cs) = No-step d cs
 -- whatever is called before it, card d's next step leaves node n's spin at 0
 abbrev pub Wakes-next : Size → Book → ℕ → ℕ → Type 0
 Wakes-next z b d n = (cs : List Call) → No-step d cs
-  → at (cells-of (after z (fed-from z b cs) (call.Step d))) (node-cell n Spin) ≡ 0
+    → at (cells-of (after z (fed-from z b cs) (call.Step d))) (node-cell n Spin) ≡ 0
 
 -- whatever is called before them, card d's next step or the one after leaves node n's spin at 0
 abbrev pub Wakes : Size → Book → ℕ → ℕ → Type 0
 Wakes z b d n =
-  Wakes-next z b d n
-  ⊎ ((cs : List Call) → No-step d cs → Wakes-next z (after z (fed-from z b cs) (call.Step d)) d n)
+    Wakes-next z b d n
+    ⊎ ((cs : List Call) → No-step d cs → Wakes-next z (after z (fed-from z b cs) (call.Step d)) d n)
 
 -- the sum of a counter's adds
 abbrev pub total : ℕ → List Sum → ℕ
@@ -124,9 +124,9 @@ sums-of c (s ∷ l) = cond (eqb (s .card) c) (s ∷ sums-of c l) (sums-of c l)
 abbrev pub entry-under-way : ℕ → Stage → List Place
 entry-under-way c Idle = []
 entry-under-way c (WriterEnters n at) =
-  cond (writer-joined at) [] (record { card = c; node = n; mode = Write } ∷ [])
+    cond (writer-joined at) [] (record { card = c; node = n; mode = Write } ∷ [])
 entry-under-way c (ReaderEnters n at) =
-  cond (reader-joined at) [] (record { card = c; node = n; mode = Read } ∷ [])
+    cond (reader-joined at) [] (record { card = c; node = n; mode = Read } ∷ [])
 entry-under-way c (Inside n m) = []
 entry-under-way c (Adds n at) = []
 entry-under-way c (WriterLeaves n at) = []
@@ -168,7 +168,7 @@ pub record Inside-stands (cells : List ℕ) (b : Book) : Type 0 where
   -- a card inside to read is in line, and ahead of it stand only active readers
   pub reading : (c n : ℕ) → Reads-inside b c n → In (b .line) (record { card = c; node = n; mode = Read })
   pub behind-active : (c n : ℕ) → Reads-inside b c n → (a : Place)
-    → Ahead (b .line) a (record { card = c; node = n; mode = Read }) → Active cells a
+      → Ahead (b .line) a (record { card = c; node = n; mode = Read }) → Active cells a
   -- an active reader is a reader
   pub active-reads : (a : Place) → In (b .line) a → Active cells a → a .mode ≡ Read
 
@@ -178,8 +178,8 @@ pub record Wakes-stand (z : Size) (cells : List ℕ) (b : Book) : Type 0 where
   pub waiting : (c n : ℕ) (m : Mode) → Waits b c n m → In (b .line) (record { card = c; node = n; mode = m })
   -- where its turn has come its spin is 0, or another card's next step or the one after makes it 0
   pub woken : (c n : ℕ) (m : Mode) → Waits b c n m
-    → Turn-come cells (b .line) (record { card = c; node = n; mode = m })
-    → (at cells (node-cell n Spin) ≡ 0) ⊎ ((d : ℕ) × (d < z .cards) × (d ≡ c → ⊥) × Wakes z b d n)
+      → Turn-come cells (b .line) (record { card = c; node = n; mode = m })
+      → (at cells (node-cell n Spin) ≡ 0) ⊎ ((d : ℕ) × (d < z .cards) × (d ≡ c → ⊥) × Wakes z b d n)
 
 pub record Stands (z : Size) (cells : List ℕ) (b : Book) : Type 0 where
   pub line : Line-stands cells (b .line)
@@ -206,7 +206,7 @@ Free b n = free (b .board .lock .cards) n ≡ true
 -- no request, step or abort changes a cell of a node that is free before and after it
 abbrev pub Untouched : Size → Call → List ℕ → List ℕ → Book → Book → Type 0
 Untouched z k old new b d = No-reuse k → (n : ℕ) → n < z .nodes → Free b n → Free d n
-  → (f : Field) → at new (node-cell n f) ≡ at old (node-cell n f)
+    → (f : Field) → at new (node-cell n f) ≡ at old (node-cell n f)
 
 -- the refusal of the memory never comes up
 abbrev pub Never-8 : Result Answer DoorFault → Type 0

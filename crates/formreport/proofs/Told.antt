@@ -24,7 +24,7 @@ use Rattle.formtext.specs.declared.faults.ReadFault.the-variants.{Memory, Form}
 use Rattle.formreport.specs.Accounts.{Before, Tells, Verdict, Accounts}
 use Rattle.formreport.specs.Accounts.Accounts.{refused, accepted}
 use Rattle.formreport.specs.Accounts.Before.{long, unsized, uncounted, stopped}
-use Rattle.formreport.specs.Words.{sizesLine, countLine, eventLine, eventLines, faultLine, wholeLine}
+use Rattle.formwords.specs.Words.{sizesLine, countLine, eventLine, eventLines, faultLine, wholeLine}
 
 lines-push : (line : ℕ) (done : List Event) (e : Event)
     → eventLines line (done ++ e ∷ []) ≡ eventLines line done ++ eventLine (line + length done) e

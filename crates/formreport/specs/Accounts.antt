@@ -13,7 +13,7 @@ use Rattle.schedule.specs.Schedules.{frontOf, textOf, Renders, RendersNone, Sto
 use Rattle.schedule.specs.Sections.{SizeSection}
 use Rattle.formtext.specs.declared.faults.ReadFault.{ReadFault}
 use Rattle.formtext.specs.declared.faults.ReadFault.the-variants.{Memory, Form}
-use Rattle.formreport.specs.Words.{sizesLine, countLine, eventLines, faultLine, wholeLine}
+use Rattle.formwords.specs.Words.{sizesLine, countLine, eventLines, faultLine, wholeLine}
 
 -- `told` is what is understood of bs before the fault
 pub data Before (bs : List ℕ) : List ℕ → FormFault → Type 0 where

@@ -1,7 +1,4 @@
-// What the form checker says of a text: line by line what it understood, and what it refused.
+// What the form checker says of a text: line by line what it understood, and then its verdict.
 mod telling;
-mod words;
 
 pub use telling::account;
-pub use words::Understood;
-pub use words::UnderstoodDisplay;

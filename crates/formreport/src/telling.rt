@@ -2,13 +2,13 @@
 ghost use Rattle.std.specs.Of.String.{string-bytes};
 ghost use Rattle.std.specs.Vec.{made};
 ghost use Rattle.formreport.specs.Accounts.{Tells, Verdict, Accounts};
-use crate::words::count_line;
-use crate::words::event_line;
-use crate::words::fault_line;
-use crate::words::sizes_line;
 use formtext::ReadFault;
 use formtext::ReadFaultFromAlloc;
 use formtext::ReadFaultFromForm;
+use formwords::count_line;
+use formwords::event_line;
+use formwords::fault_line;
+use formwords::sizes_line;
 use schedule::line_of_event;
 use schedule::take_count;
 use schedule::take_end;

@@ -3,7 +3,7 @@ ghost use mathlib.Core.Path.{_≡_};
 ghost use Rattle.std.specs.declared.option.Option.the-variants.{Some};
 ghost use Rattle.std.specs.Of.String.{string-bytes};
 ghost use Rattle.std.specs.Vec.{made};
-ghost use Rattle.formreport.specs.Words.{eventWords, sizesLine, countLine, eventLine, faultLine};
+ghost use Rattle.formwords.specs.Words.{eventWords, sizesLine, countLine, eventLine, faultLine};
 use schedule::Event;
 use schedule::FormFault;
 use schedule::FormFaultDisplay;
@@ -63,7 +63,7 @@ pub impl fmt::Display for Understood as UnderstoodDisplay {
 }
 
 // The size section on one line.
-pub(crate) fn sizes_line(heap: Global, sizes: SizeLines) -> Result<String, AllocError>
+pub fn sizes_line(heap: Global, sizes: SizeLines) -> Result<String, AllocError>
     ensures { λ r. ⌜ made r (λ s. string-bytes s ≡ sizesLine sizes) ⌝ }
 {
     let SizeLines {
@@ -75,14 +75,14 @@ pub(crate) fn sizes_line(heap: Global, sizes: SizeLines) -> Result<String, Alloc
 }
 
 // The count of events.
-pub(crate) fn count_line(heap: Global, count: u16) -> Result<String, AllocError>
+pub fn count_line(heap: Global, count: u16) -> Result<String, AllocError>
     ensures { λ r. ⌜ made r (λ s. string-bytes s ≡ countLine count) ⌝ }
 {
     format!(heap, "events {count}\n")
 }
 
 // The event of a line, after the number of that line.
-pub(crate) fn event_line(heap: Global, line: u32, e: Event) -> Result<String, AllocError>
+pub fn event_line(heap: Global, line: u32, e: Event) -> Result<String, AllocError>
     ensures { λ r. ⌜ made r (λ s. string-bytes s ≡ eventLine line e) ⌝ }
 {
     let words = Understood(e);
@@ -90,7 +90,7 @@ pub(crate) fn event_line(heap: Global, line: u32, e: Event) -> Result<String, Al
 }
 
 // The verdict on a text that is no schedule.
-pub(crate) fn fault_line(heap: Global, fault: FormFault) -> Result<String, AllocError>
+pub fn fault_line(heap: Global, fault: FormFault) -> Result<String, AllocError>
     ensures { λ r. ⌜ made r (λ s. string-bytes s ≡ faultLine fault) ⌝ }
 {
     format!(heap, "{fault}\n")
