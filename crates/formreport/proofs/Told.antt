@@ -10,11 +10,11 @@ use Rattle.std.specs.Results.{ErrBy}
 use Rattle.std.specs.declared.result.Result.{Result}
 use Rattle.std.specs.declared.result.Result.the-variants.{Ok, Err}
 use Rattle.std.proofs.shelf.Lists.{length-push}
-use Rattle.schedule.specs.declared.events.Event.{Event}
-use Rattle.schedule.specs.declared.events.SizeLines.{SizeLines}
-use Rattle.schedule.specs.declared.faults.FormFault.{FormFault}
-use Rattle.schedule.specs.declared.faults.FormFault.the-variants.{TooLong, BadLine}
-use Rattle.schedule.specs.Lines.{NumberLine, EventLine}
+use Rattle.textline.specs.declared.events.Event.{Event}
+use Rattle.textline.specs.declared.events.SizeLines.{SizeLines}
+use Rattle.textline.specs.declared.faults.FormFault.{FormFault}
+use Rattle.textline.specs.declared.faults.FormFault.the-variants.{TooLong, BadLine}
+use Rattle.textline.specs.Lines.{NumberLine, EventLine}
 use Rattle.schedule.specs.Schedules.{Renders}
 use Rattle.schedule.specs.Sections.{SizeSection, TakesSizes}
 use Rattle.schedule.proofs.Progress.{Progress, progress-none, progress-more, progress-all, same-sizes}

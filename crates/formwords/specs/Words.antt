@@ -3,11 +3,11 @@ use mathlib.Core.List.{List, [], _∷_, _++_}
 use Prim.Native.Nat.{ℕ, _+_}
 use lib.Chars.{codes}
 use Rattle.std.specs.Written.{decimal}
-use Rattle.schedule.specs.declared.events.Event.{Event}
-use Rattle.schedule.specs.declared.events.Event.the-variants.{Read, Write, Leave, Add, Show, Step, Abort, Reuse}
-use Rattle.schedule.specs.declared.events.SizeLines.{SizeLines}
-use Rattle.schedule.specs.declared.faults.FormFault.{FormFault}
-use Rattle.schedule.specs.Faults.{formWords}
+use Rattle.textline.specs.declared.events.Event.{Event}
+use Rattle.textline.specs.declared.events.Event.the-variants.{Read, Write, Leave, Add, Show, Step, Abort, Reuse}
+use Rattle.textline.specs.declared.events.SizeLines.{SizeLines}
+use Rattle.textline.specs.declared.faults.FormFault.{FormFault}
+use Rattle.textline.specs.Faults.{formWords}
 
 -- an event with a name before each of its numbers
 abbrev pub eventWords : Event → List ℕ

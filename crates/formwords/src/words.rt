@@ -4,14 +4,14 @@ ghost use Rattle.std.specs.declared.option.Option.the-variants.{Some};
 ghost use Rattle.std.specs.Of.String.{string-bytes};
 ghost use Rattle.std.specs.Vec.{made};
 ghost use Rattle.formwords.specs.Words.{eventWords, sizesLine, countLine, eventLine, faultLine};
-use schedule::Event;
-use schedule::FormFault;
-use schedule::FormFaultDisplay;
-use schedule::SizeLines;
 use std::alloc::AllocError;
 use std::alloc::Global;
 use std::fmt;
 use std::fmt::Write;
+use textline::Event;
+use textline::FormFault;
+use textline::FormFaultDisplay;
+use textline::SizeLines;
 
 // An event with a name before each of its numbers.
 #[derive(Clone, Copy)]

@@ -7,8 +7,8 @@ use lib.Chars.{codes}
 use lib.ListN.{length, getD, take}
 use Rattle.std.specs.Written.{decimal}
 use Rattle.std.proofs.shelf.Lists.{take-more, take-all}
-use Rattle.schedule.specs.Numbers.{spelled}
-use Rattle.schedule.proofs.Fields.{spelled-push}
+use Rattle.textline.specs.Numbers.{spelled}
+use Rattle.textline.proofs.Fields.{spelled-push}
 use Rattle.report.specs.Texts.{queueLine}
 
 one-more : (ns : List ℕ) (n : ℕ) → spelled (ns ++ (n ∷ [])) ≡ spelled ns ++ (32 ∷ decimal n)

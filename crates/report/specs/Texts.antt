@@ -14,9 +14,9 @@ use Rattle.lock.specs.declared.fault.SizeFault.{SizeFault}
 use Rattle.lock.specs.declared.fault.SizeFault.the-variants.{OutOfRange}
 use Rattle.door.specs.declared.fault.DoorFault.{DoorFault}
 use Rattle.door.specs.declared.fault.DoorFault.the-variants.{Malformed, Differs, Lock}
-use Rattle.schedule.specs.declared.faults.FormFault.{FormFault}
-use Rattle.schedule.specs.Faults.{formWords}
-use Rattle.schedule.specs.Numbers.{spelled}
+use Rattle.textline.specs.declared.faults.FormFault.{FormFault}
+use Rattle.textline.specs.Faults.{formWords}
+use Rattle.textline.specs.Numbers.{spelled}
 
 -- the words and numbers of every answer; 8 has the memory's number and the cell after it
 abbrev pub words : Result Answer DoorFault → List ℕ

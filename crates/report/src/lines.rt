@@ -9,11 +9,11 @@ use crate::words::Refused;
 use crate::words::RefusedDisplay;
 use door::fault::DoorFault;
 use lock::fault::SizeFault;
-use schedule::FormFault;
-use schedule::FormFaultDisplay;
 use stages::answer::Answer;
 use std::alloc::AllocError;
 use std::alloc::Global;
+use textline::FormFault;
+use textline::FormFaultDisplay;
 
 // The line of the event with the number `k`, counted from 1.
 pub fn answer_line(

@@ -9,15 +9,15 @@ use Rattle.std.specs.Written.{decimal}
 use Rattle.std.proofs.shelf.Decimals.{same-from-decimal}
 use Rattle.std.proofs.shelf.Elements.{all-append, all-push, all-getD}
 use Rattle.std.proofs.shelf.Lists.{take-at, map-append, length-map, drop-all, getD-map, length-push}
-use Rattle.schedule.specs.declared.events.Event.{Event}
-use Rattle.schedule.specs.declared.events.Event.the-variants.{Step}
-use Rattle.schedule.specs.declared.events.SizeLines.{SizeLines}
-use Rattle.schedule.specs.Events.{written, numbersOf}
-use Rattle.schedule.specs.Lines.{NoEnd, NumberLine, EventLine}
-use Rattle.schedule.specs.Numbers.{Small}
+use Rattle.textline.specs.declared.events.Event.{Event}
+use Rattle.textline.specs.declared.events.Event.the-variants.{Step}
+use Rattle.textline.specs.declared.events.SizeLines.{SizeLines}
+use Rattle.textline.specs.Events.{written, numbersOf}
+use Rattle.textline.specs.Lines.{NoEnd, NumberLine, EventLine}
+use Rattle.textline.specs.Numbers.{Small}
 use Rattle.schedule.specs.Schedules.{linesOf, frontOf, textOf, Sound, Renders, RendersNone, Fits, StopsAt}
 use Rattle.schedule.specs.Sections.{SizeSection}
-use Rattle.schedule.proofs.Ends.{no-end-decimal, no-end-written}
+use Rattle.textline.proofs.Ends.{no-end-decimal, no-end-written}
 use Rattle.schedule.proofs.Fronts.{Begun, begun-more, peel, Next, next-of, stops, same-number, no-ends}
 
 -- the size lines

@@ -5,10 +5,10 @@ use Prim.Native.Nat.{ℕ, _+_, _<_, _≤_}
 use lib.ListN.{length, take}
 use Rattle.std.specs.shelf.Lists.{All}
 use Rattle.std.specs.Written.{decimal}
-use Rattle.schedule.specs.declared.events.Event.{Event}
-use Rattle.schedule.specs.declared.events.SizeLines.{SizeLines}
-use Rattle.schedule.specs.Events.{written, numbersOf}
-use Rattle.schedule.specs.Numbers.{Small}
+use Rattle.textline.specs.declared.events.Event.{Event}
+use Rattle.textline.specs.declared.events.SizeLines.{SizeLines}
+use Rattle.textline.specs.Events.{written, numbersOf}
+use Rattle.textline.specs.Numbers.{Small}
 
 -- the lines of a schedule of `count` events, up to the last of `done`
 abbrev pub frontOf : SizeLines → ℕ → List Event → List (List ℕ)

@@ -3,14 +3,14 @@ ghost use mathlib.Core.Path.{_≡_};
 ghost use Prim.Native.Nat.{_+_, _<_, _≤_};
 ghost use lib.ListN.{length};
 ghost use Rattle.std.specs.Results.{Cases};
-ghost use Rattle.schedule.specs.declared.faults.FormFault.the-variants.{TooLong, BadLine};
+ghost use Rattle.textline.specs.declared.faults.FormFault.the-variants.{TooLong, BadLine};
 ghost use Rattle.schedule.specs.Sections.{TakesSizes, TakesCount, TakesEvent, TakesEnd};
-use crate::events::Event;
-use crate::events::SizeLines;
-use crate::faults::FormFault;
-use crate::lines::cut_line;
-use crate::lines::number_line;
-use crate::lines::read_event;
+use textline::Event;
+use textline::FormFault;
+use textline::SizeLines;
+use textline::cut_line;
+use textline::number_line;
+use textline::read_event;
 
 // The most bytes that a schedule has.
 const LONGEST: usize = 65535;

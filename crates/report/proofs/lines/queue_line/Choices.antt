@@ -3,7 +3,7 @@ use mathlib.Core.List.{_++_}
 use lib.Chars.{codes}
 use lib.ListN.{take}
 use Rattle.std.specs.Of.String.{string-bytes}
-use Rattle.schedule.specs.Numbers.{spelled}
+use Rattle.textline.specs.Numbers.{spelled}
 use Rattle.report.proofs.lines.queue_line.Given as given
 
 abbrev pub Inv-loop-n : given.InvT-loop-n

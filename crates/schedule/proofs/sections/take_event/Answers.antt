@@ -1,7 +1,7 @@
 use mathlib.Core.Path.{ap}
-use Rattle.schedule.specs.declared.faults.FormFault.the-variants.{BadLine}
-use Rattle.schedule.specs.Events.{written}
-use Rattle.schedule.proofs.Ends.{no-cut, event-of-cut, event-line-is}
+use Rattle.textline.specs.declared.faults.FormFault.the-variants.{BadLine}
+use Rattle.textline.specs.Events.{written}
+use Rattle.textline.proofs.Ends.{no-cut, event-of-cut, event-line-is}
 use Rattle.schedule.proofs.sections.take_event.Needs as need
 
 pub returns-in-rest : need.returns-in-rest
