@@ -3,7 +3,7 @@ use mathlib.Core.List.{List, [], _∷_, _++_}
 use Prim.Native.Nat.{ℕ}
 use lib.Chars.{codes}
 use Rattle.std.specs.Written.{decimal}
-use Rattle.schedule.specs.declared.events.SizeLines.{SizeLines}
+use Rattle.textline.specs.declared.events.SizeLines.{SizeLines}
 
 -- `3`, the sizes and the count of events, each with its line end
 abbrev pub headText : SizeLines → ℕ → List ℕ

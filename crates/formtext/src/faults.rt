@@ -1,10 +1,10 @@
 // Why a text was not read.
 ghost use mathlib.Core.Path.{_≡_};
 ghost use Rattle.formtext.specs.declared.faults.ReadFault.the-variants.{Memory, Form};
-use schedule::FormFault;
-use schedule::FormFaultDebug;
 use std::alloc::AllocError;
 use std::alloc::Refused;
+use textline::FormFault;
+use textline::FormFaultDebug;
 
 #[derive(Clone, Copy, Debug)]
 pub enum ReadFault {

@@ -3,13 +3,13 @@ ghost use Rattle.formtext.specs.Reads.{ReadsWhole};
 use crate::faults::ReadFault;
 use crate::faults::ReadFaultFromForm;
 use crate::faults::ReadFaultFromRefused;
-use schedule::Event;
-use schedule::SizeLines;
 use schedule::take_count;
 use schedule::take_end;
 use schedule::take_event;
 use schedule::take_sizes;
 use std::alloc::Global;
+use textline::Event;
+use textline::SizeLines;
 
 #[derive(Drop)]
 pub struct Schedule {

@@ -4,11 +4,12 @@ ghost use Rattle.std.specs.Of.String.{string-bytes};
 ghost use Rattle.std.specs.Vec.{made};
 ghost use Rattle.schedule.specs.Schedules.{rendered, OneRendering};
 ghost use Rattle.formtext.specs.Heads.{headText};
-use schedule::Event;
-use schedule::EventDisplay;
-use schedule::SizeLines;
+use crate::displays::EventText;
+use crate::displays::EventTextDisplay;
 use std::alloc::AllocError;
 use std::alloc::Global;
+use textline::Event;
+use textline::SizeLines;
 
 // The first five lines: the sizes and the count of events.
 fn head(heap: Global, sizes: SizeLines, count: usize) -> Result<String, AllocError>
@@ -29,7 +30,8 @@ pub fn render(heap: Global, sizes: SizeLines, events: &[Event]) -> Result<String
 {
     let mut out = head(heap, sizes, events.len())?;
     for e in events {
-        let line = format!(heap, "{e}\n")?;
+        let text = EventText(*e);
+        let line = format!(heap, "{text}\n")?;
         out.push_str(line.as_str())?;
     }
     Ok(out)

@@ -10,13 +10,13 @@ use Rattle.std.specs.Written.{decimal}
 use Rattle.std.proofs.shelf.Decimals.{same-from-decimal}
 use Rattle.std.proofs.shelf.Elements.{all-map, all-weaker, all-take, all-push}
 use Rattle.std.proofs.shelf.Lists.{take-take, drop-take, drop-more}
-use Rattle.schedule.specs.declared.events.Event.{Event}
-use Rattle.schedule.specs.declared.events.SizeLines.{SizeLines}
-use Rattle.schedule.specs.Events.{written, numbersOf}
-use Rattle.schedule.specs.Lines.{NoEnd, NumberLine}
-use Rattle.schedule.specs.Numbers.{Small}
+use Rattle.textline.specs.declared.events.Event.{Event}
+use Rattle.textline.specs.declared.events.SizeLines.{SizeLines}
+use Rattle.textline.specs.Events.{written, numbersOf}
+use Rattle.textline.specs.Lines.{NoEnd, NumberLine}
+use Rattle.textline.specs.Numbers.{Small}
 use Rattle.schedule.specs.Schedules.{linesOf, textOf, Sound, Fits, StopsAt}
-use Rattle.schedule.proofs.Ends.{one-cut, no-end-decimal, no-end-written}
+use Rattle.textline.proofs.Ends.{one-cut, no-end-decimal, no-end-written}
 
 -- no line of a schedule has a line end within it
 pub no-ends : (s : SizeLines) (es : List Event) → Sound s es → All NoEnd (linesOf s es)

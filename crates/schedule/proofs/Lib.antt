@@ -1,7 +1,3 @@
-pub mod Decimals
-pub mod Fields
-pub mod Letters
-pub mod Ends
 pub mod Fronts
 pub mod Sized
 pub mod Once

@@ -9,15 +9,15 @@ use lib.ListN.{length, getD, length-append}
 use Rattle.std.specs.shelf.Lists.{All}
 use Rattle.std.specs.Written.{decimal}
 use Rattle.std.proofs.shelf.Decimals.{same-from-decimal}
-use Rattle.schedule.specs.declared.events.Event.{Event}
-use Rattle.schedule.specs.declared.events.Event.the-variants.{Read, Write, Leave, Add, Show, Step, Abort, Reuse}
-use Rattle.schedule.specs.declared.events.SizeLines.{SizeLines}
-use Rattle.schedule.specs.Events.{letter, numbersOf, written}
-use Rattle.schedule.specs.Lines.{NoEnd}
-use Rattle.schedule.specs.Numbers.{Field, spelled, Small}
+use Rattle.textline.specs.declared.events.Event.{Event}
+use Rattle.textline.specs.declared.events.Event.the-variants.{Read, Write, Leave, Add, Show, Step, Abort, Reuse}
+use Rattle.textline.specs.declared.events.SizeLines.{SizeLines}
+use Rattle.textline.specs.Events.{letter, numbersOf, written}
+use Rattle.textline.specs.Lines.{NoEnd}
+use Rattle.textline.specs.Numbers.{Field, spelled, Small}
 use Rattle.schedule.specs.Schedules.{linesOf, textOf, Sound, OneRendering}
-use Rattle.schedule.proofs.Ends.{one-cut}
-use Rattle.schedule.proofs.Fields.{same-after, same-first, stops-spelled}
+use Rattle.textline.proofs.Ends.{one-cut}
+use Rattle.textline.proofs.Fields.{same-after, same-first, stops-spelled}
 use Rattle.schedule.proofs.Fronts.{no-ends}
 
 -- the event of a letter and its numbers

@@ -9,21 +9,16 @@ use Rattle.std.specs.Written.{decimal}
 use Rattle.std.proofs.shelf.Decimals.{same-from-decimal}
 use Rattle.std.proofs.shelf.Elements.{all-append, all-push, all-getD}
 use Rattle.std.proofs.shelf.Lists.{take-at, map-append, length-map, drop-all, getD-map, length-push}
-use Rattle.schedule.specs.declared.events.Event.{Event}
-use Rattle.schedule.specs.declared.events.Event.the-variants.{Step}
-use Rattle.schedule.specs.declared.events.SizeLines.{SizeLines}
-use Rattle.schedule.specs.Events.{written, numbersOf}
-use Rattle.schedule.specs.Lines.{NoEnd, NumberLine, EventLine}
-use Rattle.schedule.specs.Numbers.{Small}
-use Rattle.schedule.specs.Schedules.{linesOf, textOf, Sound, Renders, RendersNone, Fits, StopsAt}
+use Rattle.textline.specs.declared.events.Event.{Event}
+use Rattle.textline.specs.declared.events.Event.the-variants.{Step}
+use Rattle.textline.specs.declared.events.SizeLines.{SizeLines}
+use Rattle.textline.specs.Events.{written, numbersOf}
+use Rattle.textline.specs.Lines.{NoEnd, NumberLine, EventLine}
+use Rattle.textline.specs.Numbers.{Small}
+use Rattle.schedule.specs.Schedules.{linesOf, frontOf, textOf, Sound, Renders, RendersNone, Fits, StopsAt}
 use Rattle.schedule.specs.Sections.{SizeSection}
-use Rattle.schedule.proofs.Ends.{no-end-decimal, no-end-written}
+use Rattle.textline.proofs.Ends.{no-end-decimal, no-end-written}
 use Rattle.schedule.proofs.Fronts.{Begun, begun-more, peel, Next, next-of, stops, same-number, no-ends}
-
--- the lines of a schedule of `count` events, up to the last of `done`
-abbrev pub frontOf : SizeLines → ℕ → List Event → List (List ℕ)
-frontOf s count done =
-    decimal 3 ∷ decimal (s .cards) ∷ decimal (s .nodes) ∷ decimal (s .counters) ∷ decimal count ∷ map written done
 
 -- the size lines
 abbrev sizesOf : SizeLines → List (List ℕ)
@@ -51,6 +46,23 @@ begun-sizes bs head s h = record {
     ),
   );
 }
+
+-- a text has one size section
+pub same-sizes : (bs a b : List ℕ) (s t : SizeLines) → SizeSection bs s a → SizeSection bs t b → s ≡ t
+same-sizes bs a b s t p q =
+    let x = begun-sizes bs a s p in
+    let y = begun-sizes bs b t q in
+    let same = peel (sizesOf s) (sizesOf t) a b (x .lines) (y .lines) (omega arith) (sym (x .whole) ∙ y .whole) .0 in
+    let pc = p .small .0 in
+    let pn = p .small .1 .0 in
+    let pk = p .small .1 .1 .0 in
+    let qc = q .small .0 in
+    let qn = q .small .1 .0 in
+    let qk = q .small .1 .1 .0 in
+    let cards = same-from-decimal (t .cards) (s .cards) (omega arith) (omega arith) (ap (λ l. getD l 1 []) same) in
+    let nodes = same-from-decimal (t .nodes) (s .nodes) (omega arith) (omega arith) (ap (λ l. getD l 2 []) same) in
+    let counters = same-from-decimal (t .counters) (s .counters) (omega arith) (omega arith) (ap (λ l. getD l 3 []) same) in
+    (λ i. record { cards = sym cards i; nodes = sym nodes i; counters = sym counters i })
 
 -- the count is read
 pub progress-none : (bs head body : List ℕ) (s : SizeLines) (count : ℕ) → SizeSection bs s head → count ≤ 2000

@@ -9,14 +9,14 @@ use Rattle.std.specs.Results.{ErrBy}
 use Rattle.std.specs.Written.{decimal}
 use Rattle.std.specs.declared.result.Result.{Result}
 use Rattle.std.specs.declared.result.Result.the-variants.{Ok, Err}
-use Rattle.schedule.specs.declared.events.SizeLines.{SizeLines}
-use Rattle.schedule.specs.declared.faults.FormFault.{FormFault}
-use Rattle.schedule.specs.declared.faults.FormFault.the-variants.{TooLong, BadLine}
-use Rattle.schedule.specs.Lines.{NumberLine}
-use Rattle.schedule.specs.Numbers.{Small}
+use Rattle.textline.specs.declared.events.SizeLines.{SizeLines}
+use Rattle.textline.specs.declared.faults.FormFault.{FormFault}
+use Rattle.textline.specs.declared.faults.FormFault.the-variants.{TooLong, BadLine}
+use Rattle.textline.specs.Lines.{NumberLine}
+use Rattle.textline.specs.Numbers.{Small}
 use Rattle.schedule.specs.Schedules.{linesOf, textOf, Sound, Fits, StopsAt}
 use Rattle.schedule.specs.Sections.{SizeSection, TakesSizes, TakesCount}
-use Rattle.schedule.proofs.Ends.{no-end-decimal}
+use Rattle.textline.proofs.Ends.{no-end-decimal}
 use Rattle.schedule.proofs.Fronts.{Begun, begun-none, begun-more, stops, same-number}
 
 -- sizes of any three numbers

@@ -1,6 +1,2 @@
-pub mod Numbers
-pub mod Events
-pub mod Faults
-pub mod Lines
 pub mod Schedules
 pub mod Sections

@@ -5,15 +5,19 @@ use Prim.Native.Nat.{ℕ, _+_, _<_, _≤_}
 use lib.ListN.{length, take}
 use Rattle.std.specs.shelf.Lists.{All}
 use Rattle.std.specs.Written.{decimal}
-use Rattle.schedule.specs.declared.events.Event.{Event}
-use Rattle.schedule.specs.declared.events.SizeLines.{SizeLines}
-use Rattle.schedule.specs.Events.{written, numbersOf}
-use Rattle.schedule.specs.Numbers.{Small}
+use Rattle.textline.specs.declared.events.Event.{Event}
+use Rattle.textline.specs.declared.events.SizeLines.{SizeLines}
+use Rattle.textline.specs.Events.{written, numbersOf}
+use Rattle.textline.specs.Numbers.{Small}
+
+-- the lines of a schedule of `count` events, up to the last of `done`
+abbrev pub frontOf : SizeLines → ℕ → List Event → List (List ℕ)
+frontOf s count done =
+    decimal 3 ∷ decimal (s .cards) ∷ decimal (s .nodes) ∷ decimal (s .counters) ∷ decimal count ∷ map written done
 
 -- the lines of a schedule, without their ends: `3`, the sizes, the count of events, the events
 abbrev pub linesOf : SizeLines → List Event → List (List ℕ)
-linesOf s es =
-    decimal 3 ∷ decimal (s .cards) ∷ decimal (s .nodes) ∷ decimal (s .counters) ∷ decimal (length es) ∷ map written es
+linesOf s es = frontOf s (length es) es
 
 -- lines as text: byte 10 ends each
 abbrev pub textOf : List (List ℕ) → List ℕ

@@ -7,12 +7,12 @@ use denote.Ref.{RefT}
 use Rattle.std.specs.Written.{decimal}
 use Rattle.std.specs.declared.result.Result.{Result}
 use Rattle.std.specs.declared.result.Result.the-variants.{Ok, Err}
-use Rattle.schedule.specs.declared.events.Event.{Event}
-use Rattle.schedule.specs.declared.events.SizeLines.{SizeLines}
-use Rattle.schedule.specs.declared.faults.FormFault.{FormFault}
-use Rattle.schedule.specs.declared.faults.FormFault.the-variants.{TooLong, BadLine}
-use Rattle.schedule.specs.Lines.{NumberLine, EventLine}
-use Rattle.schedule.specs.Numbers.{Small}
+use Rattle.textline.specs.declared.events.Event.{Event}
+use Rattle.textline.specs.declared.events.SizeLines.{SizeLines}
+use Rattle.textline.specs.declared.faults.FormFault.{FormFault}
+use Rattle.textline.specs.declared.faults.FormFault.the-variants.{TooLong, BadLine}
+use Rattle.textline.specs.Lines.{NumberLine, EventLine}
+use Rattle.textline.specs.Numbers.{Small}
 use Rattle.schedule.specs.Schedules.{textOf, StopsAt}
 
 -- bs begins with the size section of s

@@ -3,14 +3,14 @@ ghost use mathlib.Core.Path.{_≡_};
 ghost use Prim.Native.Nat.{_+_, _<_, _≤_};
 ghost use lib.ListN.{length};
 ghost use Rattle.std.specs.Results.{Cases};
-ghost use Rattle.schedule.specs.declared.faults.FormFault.the-variants.{TooLong, BadLine};
+ghost use Rattle.textline.specs.declared.faults.FormFault.the-variants.{TooLong, BadLine};
 ghost use Rattle.schedule.specs.Sections.{TakesSizes, TakesCount, TakesEvent, TakesEnd};
-use crate::events::Event;
-use crate::events::SizeLines;
-use crate::faults::FormFault;
-use crate::lines::cut_line;
-use crate::lines::number_line;
-use crate::lines::read_event;
+use textline::Event;
+use textline::FormFault;
+use textline::SizeLines;
+use textline::cut_line;
+use textline::number_line;
+use textline::read_event;
 
 // The most bytes that a schedule has.
 const LONGEST: usize = 65535;
@@ -57,8 +57,8 @@ fn check_count(count: u16) -> Result<(), FormFault>
     Ok(())
 }
 
-// The line of the event number `index`, counted from 0.
-fn event_line(index: u16) -> u32
+// The line of the event that is number `index`, counted from 0.
+pub fn line_of_event(index: u16) -> u32
     ensures { λ r. ⌜ r ≡ 6 + index ⌝ }
 {
     FIRST_EVENT + u32::from(index)
@@ -91,11 +91,11 @@ pub fn take_count(text: &[u8]) -> Result<(u16, &[u8]), FormFault>
     Ok((count, rest))
 }
 
-// Takes the event number `index`, counted from 0.
+// Takes the event that is number `index`, counted from 0.
 pub fn take_event(text: &[u8], index: u16) -> Result<(Event, &[u8]), FormFault>
     ensures { λ r. ⌜ TakesEvent (now (text .entry)) index r ⌝ }
 {
-    let line = event_line(index);
+    let line = line_of_event(index);
     let Some((bytes, rest)) = cut_line(text) else {
         return Err(FormFault::BadLine { line });
     };
@@ -113,6 +113,6 @@ pub fn take_end(text: &[u8], count: u16) -> Result<(), FormFault>
         return Ok(());
     }
     Err(FormFault::BadLine {
-        line: event_line(count),
+        line: line_of_event(count),
     })
 }

@@ -2,7 +2,7 @@ use mathlib.Core.Path.{_≡_}
 use mathlib.Core.List.{_++_, map}
 use lib.ListN.{take}
 use Rattle.std.specs.Of.String.{string-bytes}
-use Rattle.schedule.specs.Events.{written}
+use Rattle.textline.specs.Events.{written}
 use Rattle.schedule.specs.Schedules.{textOf}
 use Rattle.formtext.proofs.rendering.render.Given as given
 

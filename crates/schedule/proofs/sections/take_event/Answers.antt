@@ -1,18 +1,18 @@
 use mathlib.Core.Path.{ap}
-use Rattle.schedule.specs.declared.faults.FormFault.the-variants.{BadLine}
-use Rattle.schedule.specs.Events.{written}
-use Rattle.schedule.proofs.Ends.{no-cut, event-of-cut, event-line-is}
+use Rattle.textline.specs.declared.faults.FormFault.the-variants.{BadLine}
+use Rattle.textline.specs.Events.{written}
+use Rattle.textline.proofs.Ends.{no-cut, event-of-cut, event-line-is}
 use Rattle.schedule.proofs.sections.take_event.Needs as need
 
 pub returns-in-rest : need.returns-in-rest
 returns-in-rest c = (
-  ap BadLine (c .event-line-line .ensures),
+  ap BadLine (c .line-of-event-line .ensures),
   λ e after h. no-cut _ (written e) after (c .in-rest .ensures tt) (h .whole),
 )
 
 pub returns-in-rest-read-event : need.returns-in-rest-read-event
 returns-in-rest-read-event c = (
-  ap BadLine (c .event-line-line .ensures),
+  ap BadLine (c .line-of-event-line .ensures),
   λ e after h. c .in-rest-read-event .ensures tt e (event-of-cut _ _ _ after e (c .in-Some .ensures tt) h),
 )
 
