@@ -1,7 +1,7 @@
 -- Every book that is fed calls keeps the invariant and the two laws.
 use mathlib.Core.Path.{_≡_, refl, sym, subst, ap}
 use mathlib.Core.Bool.{Bool, true, false, cond}
-use mathlib.Core.List.{List, [], _∷_, _++_}
+use mathlib.Core.List.{List, [], _∷_}
 use Prim.Native.Nat.{ℕ, zero, suc, _<_}
 use native.Mathlib.Omega.{arith}
 use lib.Dec.{eqb, ltb}
@@ -13,13 +13,12 @@ use Rattle.std.specs.declared.result.Result.the-variants.{Ok, Err}
 use Rattle.std.proofs.shelf.Tests.{ltb-true}
 use Rattle.memory.specs.Meaning.{Tx, none, standing, tx-of, cleared}
 use Rattle.stages.specs.declared.answer.Answer.{Answer}
-use Rattle.stages.specs.declared.stage.Stage.{Stage}
 use Rattle.stages.specs.declared.stage.Stage.the-variants.{Idle}
 use Rattle.stages.specs.declared.stage.Card.{Card}
 use Rattle.stages.specs.Layout.{counter-cell}
 use Rattle.lock.specs.declared.fault.LockFault.{LockFault}
 use Rattle.lock.specs.declared.fault.LockFault.the-variants.{NoCard}
-use Rattle.lock.specs.Lock.{Size, LockState, Turn, stage-of, new-lock, idle-card, stepped, aborted, reused}
+use Rattle.lock.specs.Lock.{Size, Turn, stage-of, new-lock, idle-card, stepped, aborted, reused}
 use Rattle.door.specs.declared.fault.DoorFault.{DoorFault}
 use Rattle.door.specs.declared.fault.DoorFault.the-variants.{Malformed, Differs, Lock}
 use Rattle.door.specs.declared.request.Request.{Request}

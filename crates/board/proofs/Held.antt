@@ -14,7 +14,7 @@ use Rattle.stages.specs.declared.stage.WriterExit.the-variants.{X1, X2, X3, X4,
 use Rattle.stages.specs.declared.stage.ReaderExit.the-variants.{Y1, Y2, Y3, Y4, Y5, Y6, Y7, Y8}
 use Rattle.stages.specs.declared.stage.Stage.{Stage}
 use Rattle.stages.specs.declared.stage.Stage.the-variants.{Idle, WriterEnters, ReaderEnters, Inside, Adds, WriterLeaves, ReaderLeaves}
-use Rattle.board.proofs.Cells.{next, prev, state, spin}
+use Rattle.board.proofs.Cells.{next, prev, state}
 
 -- a cell with a value
 abbrev pub mk : ℕ → ℕ → Write

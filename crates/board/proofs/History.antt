@@ -1,6 +1,6 @@
 -- The promise of the public calls, from that of every book.
 use mathlib.Core.Path.{_≡_, refl, sym, subst, _∙_, ap}
-use mathlib.Core.List.{List, [], _∷_, _++_, map}
+use mathlib.Core.List.{List, [], _∷_, _++_}
 use Prim.Native.Nat.{ℕ}
 use lib.ListN.{length, length-map}
 use Rattle.std.specs.declared.result.Result.{Result}
@@ -12,7 +12,7 @@ use Rattle.door.specs.declared.call.Call.{Call}
 use Rattle.door.specs.Door.{DoorState, called, new-door, ran}
 use Rattle.board.specs.Book.{Book, Place, after, new-book, fed-from, fed, Follows}
 use Rattle.board.specs.Promise.{Within, Stands, Untouched, Never-8, cells-of}
-use Rattle.board.specs.History.{cells-in, Stands-after, Carried, Carries, Carries-all, Stands-throughout, nodes-of, Lines-up}
+use Rattle.board.specs.History.{cells-in, Stands-after, Carries, Carries-all, Stands-throughout, nodes-of, Lines-up}
 use Rattle.board.proofs.Book.{board-after, whole, promised, never}
 use Rattle.board.proofs.Untouched.{untouched}
 use Rattle.board.proofs.Walks.{line-is-walked}

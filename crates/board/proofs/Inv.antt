@@ -2,19 +2,19 @@
 use mathlib.Core.Path.{_≡_}
 use mathlib.Core.Bool.{Bool, true, false}
 use mathlib.Core.List.{List, [], _∷_}
-use Prim.Native.Nat.{ℕ, suc, _+_, _≤_, _<_, min}
+use Prim.Native.Nat.{ℕ, suc, _≤_, _<_, min}
 use lib.ListN.{length}
-use Rattle.memory.specs.Meaning.{Meaning, standing, tx-of}
+use Rattle.memory.specs.Meaning.{standing, tx-of}
 use Rattle.stages.specs.declared.stage.Mode.{Mode}
 use Rattle.stages.specs.declared.stage.Mode.the-variants.{Read, Write}
-use Rattle.stages.specs.declared.stage.Addition.the-variants.{A1, A2}
+use Rattle.stages.specs.declared.stage.Addition.the-variants.{A2}
 use Rattle.stages.specs.declared.stage.Stage.{Stage}
 use Rattle.stages.specs.declared.stage.Stage.the-variants.{Idle, Adds}
 use Rattle.stages.specs.Layout.{counter-cell}
 use Rattle.lock.specs.Lock.{Size, LockState, stage-of}
 use Rattle.board.specs.Book.{Book, Place, Sum}
 use Rattle.board.specs.Promise.{total}
-use Rattle.board.proofs.Views.{View, view, link, reader}
+use Rattle.board.proofs.Views.{view, link, reader}
 use Rattle.board.proofs.Chain.{Line}
 use Rattle.board.proofs.Held.{Isolated}
 use Rattle.board.proofs.Sound.{Sound}

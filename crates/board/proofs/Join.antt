@@ -6,12 +6,12 @@ use mathlib.Core.Logic.{_⊎_, inl, inr, ⊎-elim}
 use Prim.Native.Nat.{ℕ, zero, suc}
 use native.Mathlib.Omega.{arith}
 use Rattle.board.proofs.Cells.{at, at-same, at-other, at-all, clash, next, prev, state, spin}
-use Rattle.board.proofs.Views.{View, away, comesW, comesR, waitsW, waitsR}
+use Rattle.board.proofs.Views.{link-node, View, away, comesW, comesR, waitsW, waitsR}
 use Rattle.board.proofs.Views.{holdsW, turnR, activeR, seesR, wakesR, hands}
 use Rattle.board.proofs.Views.{node, link, joined, reader, active, target, hand, granted, Cells}
 use Rattle.board.proofs.Chain.{Spot, End, who, Chain, In, Once, Ok, chain-join, chain-joined, chain-end}
 use Rattle.board.proofs.Chain.{Led, Due, Baton, Line, Seat, Front, seat-place}
-use Rattle.board.proofs.Moves.{joined-link, node-is, cells-frame, seat-frame, front-frame, front-none, nodes-at}
+use Rattle.board.proofs.Moves.{joined-link, cells-frame, seat-frame, front-frame, front-none, nodes-at}
 
 -- who is in a list that is one longer
 in-join : (c d : ℕ) (l : List ℕ) → In c l → In c (l ++ (d ∷ []))
@@ -82,7 +82,7 @@ module _ (f g : ℕ → ℕ) (V : ℕ → View) (l : List ℕ) (I : Line f V l) 
   same d j = at-other V c u d (other d j)
 
   my-node : node u ≡ n
-  my-node = node-is u n (J .in-line) (J .keeps)
+  my-node = link-node u n (J .keeps)
 
   -- the tail's node is that of a card in line, with nobody behind
   tail-card : (m : ℕ) → f 0 ≡ suc m → (d : ℕ) × (joined (V d) ≡ true) × (link (V d) ≡ suc m) × (f (next m) ≡ 0)
@@ -96,7 +96,7 @@ module _ (f g : ℕ → ℕ) (V : ℕ → View) (l : List ℕ) (I : Line f V l) 
         o,
         k,
         ⊎-elim (λ z. absurd (omega arith))
-            (λ h. ap (λ (x : ℕ). f (next x)) (sym (node-is (V d) m o k)) ∙ h) (E .last),
+            (λ h. ap (λ (x : ℕ). f (next x)) (sym (link-node (V d) m k)) ∙ h) (E .last),
       )
 
   -- every other card has another node; who is out of line has not the tail's

@@ -1,8 +1,7 @@
 -- A memory call seen through the standing values f and the transactions t, for a card and a cell in range. The rules are
 -- those of the meaning; only lists have become functions.
-use mathlib.Core.Path.{_≡_}
 use mathlib.Core.List.{List, [], _∷_}
-use Prim.Native.Nat.{ℕ, _<_}
+use Prim.Native.Nat.{ℕ}
 use Rattle.std.specs.declared.option.Option.{Option}
 use Rattle.std.specs.declared.option.Option.the-variants.{Some, None}
 use Rattle.std.specs.declared.result.Result.{Result}
@@ -11,7 +10,7 @@ use Rattle.memory.specs.declared.access.Access.the-variants.{Reads, Writes}
 use Rattle.memory.specs.declared.write.Write.{Write}
 use Rattle.memory.specs.declared.fault.MemoryFault.{MemoryFault}
 use Rattle.memory.specs.declared.fault.Refusal.{Refusal}
-use Rattle.memory.specs.declared.fault.Refusal.the-variants.{OutOfRange, Already, NoTransaction, Doomed, Full}
+use Rattle.memory.specs.declared.fault.Refusal.the-variants.{Already, NoTransaction, Doomed, Full}
 use Rattle.memory.specs.declared.call.MemoryCall.{MemoryCall}
 use Rattle.memory.specs.declared.call.MemoryCall.the-variants as call
 use Rattle.memory.specs.Meaning.{Tx, none, live, doomed, value-in, marking, recording, struck}

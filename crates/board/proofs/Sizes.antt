@@ -35,7 +35,7 @@ fresh-by memory (Err e) r z s p q = let w : _≡_ {A = ℕ} 0 1 = cc in absurd (
 -- set-up as a judgement of sizes
 made-is : {X : Type 0} (memory : X) (j : Result Size SizeFault)
     → _≡_ {A = Result (Size × DoorState) (Unfit X)}
-      (elim j [ Ok z ↦ Ok (z, new-door) | Err e ↦ Err (record { fault = e; memory = memory }) ]) (made-of memory j)
+    (elim j [ Ok z ↦ Ok (z, new-door) | Err e ↦ Err (record { fault = e; memory = memory }) ]) (made-of memory j)
 made-is memory (Ok z) = refl
 made-is memory (Err e) = refl
 
@@ -47,7 +47,7 @@ fresh memory c n k r z s p q = fresh-by memory (sized c n k) r z s p (q ∙ made
 played-by : {X : Type 0} (memory : X) (j : Result Size SizeFault) (r : Result (Size × DoorState) (Unfit X))
     (cs : List Call) (y z : Size) (s t : DoorState) → r ≡ Ok (y, s) → r ≡ made-of memory j → z ≡ y → t ≡ ran y s cs
     → _≡_ {A = Result (Size × DoorState) (Unfit X)} (Ok (z, t))
-      (elim j [ Ok z ↦ Ok (z, ran z new-door cs) | Err e ↦ Err (record { fault = e; memory = memory }) ])
+    (elim j [ Ok z ↦ Ok (z, ran z new-door cs) | Err e ↦ Err (record { fault = e; memory = memory }) ])
 played-by memory (Ok x) r cs y z s t p q e f =
     let w : _≡_ {A = Size × DoorState} (y, s) (x, new-door) = cc in
     let zx : z ≡ x = e ∙ ap (λ (v : Size × DoorState). v .0) w in

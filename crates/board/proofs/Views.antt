@@ -1,5 +1,6 @@
 -- A card as the line sees it: what its stage means for its place.
 use mathlib.Core.Path.{_≡_}
+use native.Mathlib.Omega.{arith}
 use mathlib.Core.Bool.{Bool, true, false}
 use Prim.Native.Nat.{ℕ, suc}
 use lib.Dec.{eqb}
@@ -197,3 +198,17 @@ Cells f (seesR n q) = f (state n) ≡ 3
 Cells f (wakesR n q) = f (state n) ≡ 3
 Cells f (activeR n) = f (state n) ≡ 3
 Cells f (hands n q) = Unit {0}
+
+-- the node that a link names
+pub link-node : (v : View) (m : ℕ) → link v ≡ suc m → node v ≡ m
+link-node away m e = absurd (omega arith)
+link-node (comesW n) m e = omega arith
+link-node (comesR n) m e = omega arith
+link-node (waitsW n) m e = omega arith
+link-node (waitsR n) m e = omega arith
+link-node (holdsW n) m e = omega arith
+link-node (turnR n) m e = omega arith
+link-node (activeR n) m e = omega arith
+link-node (seesR n q) m e = omega arith
+link-node (wakesR n q) m e = omega arith
+link-node (hands n q) m e = omega arith

@@ -38,7 +38,7 @@ use Rattle.board.specs.Book.{Book, Place, after, fed-from}
 use Rattle.board.specs.Promise as promise
 use Rattle.board.specs.Promise.{cells-of, stage, Within, No-step, Wakes-next, Wakes, Waits, Wakes-stand}
 use Rattle.board.proofs.Cells.{at-same, clash, state, spin}
-use Rattle.board.proofs.Views.{View, view, node, link, joined, reader, active, target, hand, granted, Cells}
+use Rattle.board.proofs.Views.{link-node, View, view, node, link, joined, reader, active, target, hand, granted, Cells}
 use Rattle.board.proofs.Chain.{Chain, Baton, chain-behind}
 use Rattle.board.proofs.Held.{in-tx}
 use Rattle.board.proofs.Model.{seen, seen-on}
@@ -50,7 +50,7 @@ use Rattle.board.proofs.Join.{active-state}
 use Rattle.board.proofs.Moves.{aimed}
 use Rattle.board.proofs.Turns.{moved-same, moved-other, same-stage, Taken, Served, served-moves, request-cases}
 use Rattle.board.proofs.Turns.{step-cases, step-is, abort-cases, reuse-cards}
-use Rattle.board.proofs.Stands.{place, link-node, chain-from, seat-in, in-place}
+use Rattle.board.proofs.Stands.{place, chain-from, seat-in, in-place}
 
 -- Tables: who is about to wake the node m.
 

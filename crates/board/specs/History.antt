@@ -15,7 +15,7 @@ use Rattle.door.specs.declared.call.Call.{Call}
 use Rattle.door.specs.Door.{DoorState}
 use Rattle.door.specs.Doors.{door-state, door-size}
 use Rattle.board.specs.declared.board.Board.{Board}
-use Rattle.board.specs.Book.{Book, Place, fed, Follows}
+use Rattle.board.specs.Book.{Place, fed, Follows}
 use Rattle.board.specs.Promise.{Stands, Untouched, Never-8, cells-of}
 
 -- a board's state and its sizes
