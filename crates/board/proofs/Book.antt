@@ -26,7 +26,8 @@ use Rattle.door.specs.declared.request.Memo.{Memo}
 use Rattle.door.specs.declared.call.Call.{Call}
 use Rattle.door.specs.declared.call.Call.the-variants as call
 use Rattle.door.specs.Faults as door
-use Rattle.door.specs.Door.{DoorState, Reply, no-memo, new-memo, new-door, memo-of, worded, understood, same, told, resent}
+use Rattle.door.specs.Door.{DoorState, Reply, no-memo, new-memo, new-door, memo-of, worded, understood, same, told}
+use Rattle.door.specs.Door.{resent}
 use Rattle.door.specs.Door.{served, noted, judged, asked, passed, called}
 use Rattle.board.specs.Book.{Book, Place, Sum, lined, summed, step-deed, after, new-book, fed-from, fed}
 use Rattle.board.specs.Promise.{Within, Never-8, Stands, cells-of}
@@ -107,7 +108,8 @@ module _ (z : Size) (W : Within z) where
     pub never : Calm (s .memos) → Never-8 (p .0)
 
   -- an event that is no request
-  passed-fair : (s : DoorState) (p : Turn) (l : List Place) (q : List Sum) → Good z p l q → Fair-reply s (passed s p) l q
+  passed-fair : (s : DoorState) (p : Turn) (l : List Place) (q : List Sum) → Good z p l q
+      → Fair-reply s (passed s p) l q
   passed-fair s p l q g = record { safe = g .0; calm = λ k. k; never = λ _. told-never (p .0) (g .1) }
 
   -- a request of a card that there is
@@ -117,7 +119,8 @@ module _ (z : Size) (W : Within z) where
   judged-fair s l q h c lt t (Ok w) n = go (eqb (memo-of s c .toggle) t)
     where
       go : (b : Bool) → Fair-reply s
-          (cond b (resent (memo-of s c .request) w (memo-of s c .answer), s) (noted s c t w (served z (s .lock) c w))) l q
+          (cond b (resent (memo-of s c .request) w (memo-of s c .answer), s)
+          (noted s c t w (served z (s .lock) c w))) l q
       go true = record {
         safe = h;
         calm = λ k. k;
@@ -177,7 +180,8 @@ module _ (z : Size) (W : Within z) where
   whole-after b k I = record {
     inv = keep b k (I .inv);
     lawful = lawful-after z b (W .cards) (I .inv .kept .cards) (I .lawful) k;
-    calm = subst (λ (s : DoorState). Calm (s .memos)) (sym (board-after z b k)) (call-fair b (I .inv) k .calm (I .calm));
+    calm = subst (λ (s : DoorState). Calm (s .memos)) (sym (board-after z b k))
+        (call-fair b (I .inv) k .calm (I .calm));
   }
 
   -- a board newly set up has them

@@ -10,7 +10,8 @@ use Rattle.std.proofs.shelf.Tests.{ne-eqb}
 use Rattle.board.proofs.Cells.{at, next, prev, state, spin}
 use Rattle.board.proofs.Chain.{without}
 use Rattle.board.proofs.Cells.{at-same, at-other, clash}
-use Rattle.board.proofs.Views.{link-node, View, away, comesW, comesR, waitsW, waitsR, holdsW, turnR, activeR, seesR, wakesR}
+use Rattle.board.proofs.Views.{link-node, View, away, comesW, comesR, waitsW, waitsR, holdsW, turnR, activeR, seesR}
+use Rattle.board.proofs.Views.{wakesR}
 use Rattle.board.proofs.Views.{hands, node, link, joined, reader, active, target, hand, granted, Cells}
 use Rattle.board.proofs.Chain.{Spot, who, Line}
 use Rattle.board.proofs.Moves.{joined-link, blocked}

@@ -51,7 +51,8 @@ module _ (z : Size) (W : Within z) where
       let B = fed z cs in
       let X = fed z (cs ++ k ∷ []) in
       let E = fed-more z cs k in
-      let G : X .board ≡ t = ap (λ (b : Book). b .board) E ∙ board-after z B k ∙ ap (λ (x : DoorState). called z x k .1) f
+      let G : X .board ≡ t = ap (λ (b : Book). b .board) E ∙ board-after z B k
+      ∙ ap (λ (x : DoorState). called z x k .1) f
       ∙ sym (ap (λ (p : Result Answer DoorFault × DoorState). p .1) e) in
       record {
         after = stands-after (cs ++ k ∷ []) t G;

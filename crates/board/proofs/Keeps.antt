@@ -25,15 +25,18 @@ use Rattle.stages.specs.declared.stage.Addition.the-variants.{A1}
 use Rattle.stages.specs.declared.stage.WriterExit.the-variants.{X1}
 use Rattle.stages.specs.declared.stage.ReaderExit.the-variants.{Y1}
 use Rattle.stages.specs.declared.stage.Stage.{Stage}
-use Rattle.stages.specs.declared.stage.Stage.the-variants.{Idle, WriterEnters, ReaderEnters, Inside, Adds, WriterLeaves, ReaderLeaves}
+use Rattle.stages.specs.declared.stage.Stage.the-variants.{Idle, WriterEnters, ReaderEnters, Inside, Adds}
+use Rattle.stages.specs.declared.stage.Stage.the-variants.{WriterLeaves, ReaderLeaves}
 use Rattle.stages.specs.Layout.{counter-cell}
 use Rattle.stages.specs.Rows.{call-of, begin-of, in-transaction}
 use Rattle.lock.specs.declared.fault.LockFault.{LockFault}
 use Rattle.lock.specs.declared.fault.LockFault.the-variants.{NoCard, NotAllowed, NoPlace, NotFree}
 use Rattle.lock.specs.declared.values.NodeValues.{NodeValues}
 use Rattle.lock.specs.Faults as lock
-use Rattle.lock.specs.Lock.{Size, LockState, Turn, stage-of, staged, kept, refuses, of-card, on-free, free, goes, advanced, returns-by}
-use Rattle.lock.specs.Lock.{step-by, stepped, drop-by, abort-by, aborted, stores, entry-stores, first-stage, enter-by, enter-at}
+use Rattle.lock.specs.Lock.{Size, LockState, Turn, stage-of, staged, kept, refuses, of-card, on-free, free, goes}
+use Rattle.lock.specs.Lock.{advanced, returns-by}
+use Rattle.lock.specs.Lock.{step-by, stepped, drop-by, abort-by, aborted, stores, entry-stores, first-stage, enter-by}
+use Rattle.lock.specs.Lock.{enter-at}
 use Rattle.lock.specs.Lock.{inside-by, leave-at, add-at, count-by, show-at, reuse-stores, reuse-by, reuse-at, reused}
 use Rattle.door.specs.declared.request.Request.{Request}
 use Rattle.door.specs.declared.request.Request.the-variants.{Enter, Leave, Add, Show}
@@ -88,7 +91,8 @@ safe-by z s l q f t S cl tl sl ef et eS I L A K W C = record {
     txs = tl;
     cards = sl;
     isolated = subst (λ (g : ℕ → ℕ). Isolated g (tx-of (s .meaning)) (stage-of s)) (sym ef)
-        (subst (λ (u : ℕ → Tx). Isolated f u (stage-of s)) (sym et) (subst (λ (T : ℕ → Stage). Isolated f t T) (sym eS) I));
+        (subst (λ (u : ℕ → Tx). Isolated f u (stage-of s)) (sym et)
+        (subst (λ (T : ℕ → Stage). Isolated f t T) (sym eS) I));
     line = subst (λ (g : ℕ → ℕ). Line g (views (stage-of s)) (cards-of l)) (sym ef)
         (subst (λ (T : ℕ → Stage). Line f (views T) (cards-of l)) (sym eS) L);
     absent = subst (λ (T : ℕ → Stage). (c : ℕ) → z .cards ≤ c → T c ≡ Idle) (sym eS) A;
@@ -160,8 +164,10 @@ module _ (z : Size) (W : Within z) (s : LockState) (l : List Place) (q : List Su
             (lined c (cond (accepted (P .answer)) (deed (S c)) plain) l)
             (summed c (cond (accepted (P .answer)) (deed (S c)) plain) q)
             (P .cell) (P .tx) (at S c (advanced (S c) (P .answer) .0))
-            (B .cells) (B .txs) (staged-length s (performed m k .after) c (advanced (S c) (P .answer) .0) (h .kept .cards))
-            (B .cell) (B .tx) (staged-is s (performed m k .after) c (advanced (S c) (P .answer) .0) (h .kept .cards) low)
+            (B .cells) (B .txs) (staged-length s (performed m k .after) c (advanced (S c) (P .answer) .0)
+            (h .kept .cards))
+            (B .cell) (B .tx) (staged-is s (performed m k .after) c (advanced (S c) (P .answer) .0)
+            (h .kept .cards) low)
             (step-isolated N K (standing m) (tx-of m) S (h .kept .isolated) c (h .kept .sound c) k e)
             (subst (Line (P .cell) (views (at S c (advanced (S c) (P .answer) .0))))
             (sym (cards-lined c (cond (accepted (P .answer)) (deed (S c)) plain) l))
@@ -198,7 +204,8 @@ module _ (z : Size) (W : Within z) (s : LockState) (l : List Place) (q : List Su
       let E = drop-accepted (standing m) (tx-of m) S (h .kept .isolated) c i in
       let D = performed m (memory-call.Drop c) .after in
       let g = begin-of (S c) in
-      subst (λ (r : Result ℕ MemoryFault). Good z (drop-by s c r D) l q) (sym (B .answer ∙ ap (λ (o : Out). o .answer) E)) (
+      subst (λ (r : Result ℕ MemoryFault). Good z (drop-by s c r D) l q)
+      (sym (B .answer ∙ ap (λ (o : Out). o .answer) E)) (
         safe-by z (staged s D c g) l q (P .cell) (P .tx) (at S c g)
             (B .cells) (B .txs) (staged-length s D c g (h .kept .cards)) (B .cell) (B .tx)
             (staged-is s D c g (h .kept .cards) low)
@@ -217,7 +224,8 @@ module _ (z : Size) (W : Within z) (s : LockState) (l : List Place) (q : List Su
   abort-good (Some k) e = go (in-transaction k) (row-inside c (S c) k (row N K c (S c) (h .kept .sound c) k e))
     where
       go : (b : Bool) → b ≡ in-tx (S c)
-          → Good z (cond b (drop-by s c (performed m (memory-call.Drop c) .answer) (performed m (memory-call.Drop c) .after))
+          → Good z (cond b (drop-by s c (performed m (memory-call.Drop c) .answer)
+          (performed m (memory-call.Drop c) .after))
           (refuses s NotAllowed)) l q
       go true x = drop-good (sym x)
       go false x = (h, λ y. omega arith)
@@ -230,7 +238,8 @@ module _ (z : Size) (W : Within z) (s : LockState) (l : List Place) (q : List Su
       let B = sees (memory-call.Load c a) (refl, lt) in
       let E = load-accepted (standing m) (tx-of m) S (h .kept .isolated) c a o in
       let D = performed m (memory-call.Load c a) .after in
-      subst (λ (r : Result ℕ MemoryFault). Good z (count-by s r D) l q) (sym (B .answer ∙ ap (λ (o : Out). o .answer) E)) (
+      subst (λ (r : Result ℕ MemoryFault). Good z (count-by s r D) l q)
+      (sym (B .answer ∙ ap (λ (o : Out). o .answer) E)) (
         safe-by z (kept s D) l q (P .cell) (P .tx) S (B .cells) (B .txs) (h .kept .cards) (B .cell) (B .tx) refl
             (load-isolated (standing m) (tx-of m) S (h .kept .isolated) c a o)
             (subst (λ (f : ℕ → ℕ). Line f (views S) (cards-of l)) (sym (ap (λ (o : Out). o .cell) E)) (h .kept .line))
@@ -252,7 +261,8 @@ module _ (z : Size) (W : Within z) (s : LockState) (l : List Place) (q : List Su
 
     not-in-line : In c (cards-of l) → ⊥
     not-in-line i = clash (joined (view (S c)))
-        (chain-joined (standing m) (views S) (cards-of l) 0 (h .kept .line .chain) c i) (ap (λ (x : Stage). joined (view x)) idle)
+        (chain-joined (standing m) (views S) (cards-of l) 0 (h .kept .line .chain) c i)
+        (ap (λ (x : Stage). joined (view x)) idle)
 
     first-sound : (n : ℕ) (o : Mode) → n < N → Sound N K (first-stage n o)
     first-sound n Read lt = lt
@@ -392,7 +402,11 @@ module _ (z : Size) (W : Within z) (s : LockState) (l : List Place) (q : List Su
   add-good : (k a n : ℕ) (o : Mode) → S c ≡ Inside n o → Good z (add-at z s c k a n o) l q
   add-good k a n Read e = not-allowed
   add-good k a n Write e = on-counter-good k (Ok Done, staged s m c (Adds n (A1 k a)))
-      (λ lt. (restage-safe (Adds n (A1 k a)) (inside-out n Write e) refl (sym (ap view e)) (inside-node n Write e, lt) refl, tt))
+      (λ lt. (
+        restage-safe (Adds n (A1 k a)) (inside-out n Write e) refl (sym (ap view e))
+            (inside-node n Write e, lt) refl,
+        tt,
+      ))
 
   show-good : (k n : ℕ) (o : Mode) → S c ≡ Inside n o → Good z (show-at z s c k n o) l q
   show-good k n o e =
@@ -406,7 +420,8 @@ module _ (z : Size) (W : Within z) (s : LockState) (l : List Place) (q : List Su
   served-good Leave = of-card-good (inside-by s (leave-at s c) (S c)) (inside-good (leave-at s c) leave-good (S c) refl)
   served-good (Add k a) = of-card-good (inside-by s (add-at z s c k a) (S c))
       (inside-good (add-at z s c k a) (add-good k a) (S c) refl)
-  served-good (Show k) = of-card-good (inside-by s (show-at z s c k) (S c)) (inside-good (show-at z s c k) (show-good k) (S c) refl)
+  served-good (Show k) = of-card-good (inside-by s (show-at z s c k) (S c))
+      (inside-good (show-at z s c k) (show-good k) (S c) refl)
 
 -- a list of the same everywhere
 all-same : {A : Type 0} (n i : ℕ) (a : A) → getD (replicate n a) i a ≡ a
@@ -440,7 +455,8 @@ module _ (z : Size) (W : Within z) where
       go true e = step-good z W s l q h c (ltb-true c (z .cards) e) (call-of (z .nodes) c (stage-of s c)) refl
       go false e = (h, λ x. omega arith)
 
-  pub abort-keeps : (s : LockState) (l : List Place) (q : List Sum) → Safe z s l q → (c : ℕ) → Good z (aborted z s c) l q
+  pub abort-keeps : (s : LockState) (l : List Place) (q : List Sum) → Safe z s l q → (c : ℕ)
+      → Good z (aborted z s c) l q
   abort-keeps s l q h c = of-card-keeps s l q h c (abort-by s c (call-of (z .nodes) c (stage-of s c)))
       (λ lt. abort-good z W s l q h c lt (call-of (z .nodes) c (stage-of s c)) refl)
 

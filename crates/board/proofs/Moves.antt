@@ -10,7 +10,8 @@ use Rattle.std.proofs.shelf.Ways.{tells}
 use Rattle.std.proofs.shelf.Tests.{cases-eq}
 use Rattle.board.proofs.Cells.{at, next, prev, state, spin}
 use Rattle.board.proofs.Cells.{at-same, at-other, at-all, clash}
-use Rattle.board.proofs.Views.{link-node, View, away, comesW, comesR, waitsW, waitsR, holdsW, turnR, activeR, seesR, wakesR}
+use Rattle.board.proofs.Views.{link-node, View, away, comesW, comesR, waitsW, waitsR, holdsW, turnR, activeR, seesR}
+use Rattle.board.proofs.Views.{wakesR}
 use Rattle.board.proofs.Views.{hands, node, link, joined, reader, active, target, waking, hand, granted, Cells}
 use Rattle.board.proofs.Chain.{Spot, End, who, Chain, In, Once, Ok, granted-frame, chain-map, chain-behind}
 use Rattle.board.proofs.Chain.{Led, Due, Baton, Nodes, Line, Seat, Front, seat-place, front-end}

@@ -55,7 +55,8 @@ played-by memory (Ok x) r cs y z s t p q e f =
     λ i. Ok (zx i, tx i)
 played-by memory (Err e) r cs y z s t p q _ _ = let w : _≡_ {A = ℕ} 0 1 = cc in absurd (omega arith)
 
-pub plays : {X : Type 0} (memory : X) (c n k : ℕ) (r : Result (Size × DoorState) (Unfit X)) (cs : List Call) (y z : Size)
+pub plays : {X : Type 0} (memory : X) (c n k : ℕ) (r : Result (Size × DoorState) (Unfit X)) (cs : List Call)
+    (y z : Size)
     (s t : DoorState) → r ≡ Ok (y, s) → r ≡ set-up memory c n k → z ≡ y → t ≡ ran y s cs
     → _≡_ {A = Result (Size × DoorState) (Unfit X)} (Ok (z, t)) (played memory c n k cs)
 plays memory c n k r cs y z s t p q e f =

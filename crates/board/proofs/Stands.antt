@@ -17,7 +17,8 @@ use Rattle.board.specs.Book.{Book, Place}
 use Rattle.board.specs.Promise as promise
 use Rattle.board.specs.Promise.{cells-of, Line-stands, Inside-stands}
 use Rattle.board.proofs.Cells.{clash, next, prev, state}
-use Rattle.board.proofs.Views.{link-node, View, away, comesW, comesR, waitsW, waitsR, holdsW, turnR, activeR, seesR, wakesR}
+use Rattle.board.proofs.Views.{link-node, View, away, comesW, comesR, waitsW, waitsR, holdsW, turnR, activeR, seesR}
+use Rattle.board.proofs.Views.{wakesR}
 use Rattle.board.proofs.Views.{hands}
 use Rattle.board.proofs.Views.{view, node, link, joined, reader, active, granted}
 use Rattle.board.proofs.Chain.{Spot, End, Chain, In, Once, chain-pred}

@@ -151,7 +151,8 @@ module _ (z : Size) (W : Within z) (b : Book) (I : Inv z b) (n : ℕ) (x : Field
       (λ q. by-test (λ (t : Turn). Keeps (t .1)) (free (s .cards) k)
       (enter-by s c (first-stage k m) (stores c (entry-stores k m) (s .meaning))) (refuses s NotFree)
       (let D = done (ltb-true k (z .nodes) q) in
-      subst (λ (p : Result (Unit {0}) LockFault × Meaning). Keeps (enter-by s c (first-stage k m) p .1)) (sym (D .1 .done))
+      subst (λ (p : Result (Unit {0}) LockFault × Meaning). Keeps (enter-by s c (first-stage k m) p .1))
+      (sym (D .1 .done))
       (entered-keeps c k m lt (D .0) (D .1 .stands)))
       (λ _. refl))
       (λ q _. refl)
@@ -159,7 +160,8 @@ module _ (z : Size) (W : Within z) (b : Book) (I : Inv z b) (n : ℕ) (x : Field
       done : k < z .nodes → (o : Meaning) × Stored c (stage-of s) (entry-stores k m) (s .meaning) o
       done lk = let u = W .cards in let v = W .nodes in
           stores-done c (stage-of s) (omega arith) (ap in-tx e) (entry-stores k m)
-          (within-below k (entry-stores k m) (omega arith) (entry-within k m)) (s .meaning) (I .kept .cells) (I .kept .txs)
+          (within-below k (entry-stores k m) (omega arith) (entry-within k m)) (s .meaning) (I .kept .cells)
+          (I .kept .txs)
           (I .kept .isolated)
   enter-keeps c k m lt (WriterEnters i at) e = λ _. refl
   enter-keeps c k m lt (ReaderEnters i at) e = λ _. refl

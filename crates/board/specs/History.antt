@@ -1,5 +1,6 @@
 -- What the public calls of a board promise over histories.
--- Set-up gives a board that follows the empty list of calls; each call gives one that follows the list with that call at
+-- Set-up gives a board that follows the empty list of calls; each call gives one that follows the list with that call
+-- at
 -- its end. Nothing else makes or changes a board, so every board follows the calls that were made on it.
 use mathlib.Core.List.{List, [], _∷_, _++_, map}
 use mathlib.Core.Path.{_≡_}
@@ -50,7 +51,8 @@ Carries-all z ks s t = (cs : List Call) → Follows z cs s → Stands-after z (c
 
 -- before the first call of a list and after each, by the book
 abbrev pub Stands-throughout : Size → List Call → Type 0
-Stands-throughout z cs = (before rest : List Call) → cs ≡ before ++ rest → Stands z (cells-of (fed z before)) (fed z before)
+Stands-throughout z cs = (before rest : List Call) → cs ≡ before ++ rest
+    → Stands z (cells-of (fed z before)) (fed z before)
 
 -- the nodes of the book's line
 abbrev pub nodes-of : List Place → List ℕ

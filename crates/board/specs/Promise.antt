@@ -18,7 +18,8 @@ use Rattle.stages.specs.declared.stage.Addition.the-variants.{A1, A2}
 use Rattle.stages.specs.declared.stage.WriterEntry.the-variants.{W6}
 use Rattle.stages.specs.declared.stage.ReaderEntry.the-variants.{R8}
 use Rattle.stages.specs.declared.stage.Stage.{Stage}
-use Rattle.stages.specs.declared.stage.Stage.the-variants.{Idle, WriterEnters, ReaderEnters, Inside, Adds, WriterLeaves, ReaderLeaves}
+use Rattle.stages.specs.declared.stage.Stage.the-variants.{Idle, WriterEnters, ReaderEnters, Inside, Adds}
+use Rattle.stages.specs.declared.stage.Stage.the-variants.{WriterLeaves, ReaderLeaves}
 use Rattle.stages.specs.Layout.{tail, link, node-cell, counter-cell, active}
 use Rattle.lock.specs.Lock.{Size, stage-of, free}
 use Rattle.lock.specs.Lines.{writer-joined, reader-joined}

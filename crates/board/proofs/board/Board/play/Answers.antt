@@ -13,10 +13,12 @@ returns-in-Ok g c =
     let began = c .in-Ok .ensures tt .promise in
     record {
       gives =
-          plays (c .args .memory) (c .args .cards) (c .args .nodes) (c .args .counters) _ (c .args .calls .now) _ _ _ _ refl made
+          plays (c .args .memory) (c .args .cards) (c .args .nodes) (c .args .counters) _
+          (c .args .calls .now) _ _ _ _ refl made
           (c .run .ensures .same) (c .run .ensures .moves);
       promise = (
-        subst (λ (z : Size). Stands-after z (c .args .calls .now) (board-state (g .M·Memory .meaning) (c .run .last .self))) (sym (c .run .ensures .same))
+        subst (λ (z : Size). Stands-after z (c .args .calls .now)
+            (board-state (g .M·Memory .meaning) (c .run .last .self))) (sym (c .run .ensures .same))
             (c .run .ensures .promise [] (began .follows)),
         throughout _ (within-of (c .run .last .self .door .lock .sizes)) _,
       );
