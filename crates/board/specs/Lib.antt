@@ -1,0 +1,4 @@
+pub mod Book
+pub mod Promise
+pub mod History
+pub mod Boards

@@ -1,0 +1,3 @@
+pub mod board;
+pub mod calls;
+pub mod set_up;

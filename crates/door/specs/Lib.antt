@@ -1,0 +1,4 @@
+pub mod Faults
+pub mod Door
+pub mod Doors
+pub mod Runs

@@ -1,0 +1,13 @@
+mod advance;
+pub mod events;
+pub mod fault;
+mod lending;
+pub mod line;
+pub mod lock;
+mod nodes;
+pub mod requests;
+pub mod set_up;
+pub mod sizes;
+pub mod sizing;
+pub mod table;
+pub mod values;

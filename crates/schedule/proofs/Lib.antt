@@ -1,0 +1,4 @@
+pub mod Fronts
+pub mod Sized
+pub mod Once
+pub mod Progress

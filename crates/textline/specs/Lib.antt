@@ -1,0 +1,4 @@
+pub mod Numbers
+pub mod Events
+pub mod Faults
+pub mod Lines
