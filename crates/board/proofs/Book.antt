@@ -78,10 +78,12 @@ abbrev Well : Result Request DoorFault → Type 0
 Well (Ok w) = Unit {0}
 Well (Err e) = door.number e ≡ 8 → ⊥
 
+-- both ways of a test
 well-cond : (b : Bool) (x y : Result Request DoorFault) → Well x → Well y → Well (cond b x y)
 well-cond true x y h k = h
 well-cond false x y h k = k
 
+-- the form of a request is judged by refusal 3 alone
 understood-well : (t k a b : ℕ) → Well (understood t k a b)
 understood-well t k a b =
     let no : door.number Malformed ≡ 8 → ⊥ = λ e. omega arith in

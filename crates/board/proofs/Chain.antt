@@ -48,6 +48,7 @@ abbrev pub Once : List ℕ → Type 0
 Once [] = Unit {0}
 Once (c ∷ l) = (In c l → ⊥) × Once l
 
+-- whether a card may be in goes by its own spin alone
 pub granted-frame : (f g : ℕ → ℕ) (v : View) → g (spin (node v)) ≡ f (spin (node v)) → granted g v ≡ granted f v
 granted-frame f g away h = refl
 granted-frame f g (comesW n) h = refl
@@ -89,6 +90,7 @@ chain-join f g V U me (c ∷ l) each new end p o h = (
       (h .1),
 )
 
+-- whoever is in the chain has joined the line
 pub chain-joined : (f : ℕ → ℕ) (V : ℕ → View) (l : List ℕ) (p : ℕ) → Chain f V p l → (c : ℕ) → In c l
     → joined (V c) ≡ true
 chain-joined f V (d ∷ l) p h c (inl e) = rw e (h .0 .in-line)
@@ -102,6 +104,7 @@ chain-pred f V [] a o h c i = absurd i
 chain-pred f V (d ∷ l) a o h c (inl e) = (a, o, rw e (h .0))
 chain-pred f V (d ∷ l) a o h c (inr i) = chain-pred f V l d (h .0 .in-line) (h .1) c i
 
+-- the spot of a card in line
 pub chain-place : (f : ℕ → ℕ) (V : ℕ → View) (l : List ℕ) → Chain f V 0 l → (c : ℕ) → In c l
     → (p : ℕ) × Ok V p × Spot f (who V p) (V c)
 chain-place f V [] h c i = absurd i
@@ -204,11 +207,13 @@ pub record Front (f g : ℕ → ℕ) (p o : View) : Type 0 where
   pub waking-is : waking o ≡ waking p
   pub next-is : (link p ≡ 0) ⊎ (g (next (node o)) ≡ f (next (node p)))
 
+-- a link ahead that is kept
 from-kept : (a b x y k : ℕ) → a ≡ b → (b ≡ 0) ⊎ (x ≡ y) → (b ≡ 0) ⊎ (y ≡ k) → (a ≡ 0) ⊎ (x ≡ k)
 from-kept a b x y k e (inl h) m = inl (e ∙ h)
 from-kept a b x y k e (inr h) (inl m) = inl (e ∙ m)
 from-kept a b x y k e (inr h) (inr m) = inr (h ∙ m)
 
+-- a spot is kept where both its sides are
 pub seat-place : (f g : ℕ → ℕ) (p o v u : View) → Front f g p o → Seat f g v u → Spot f p v → Spot g o u
 seat-place f g p o v u A L P = record {
   in-line = L .joins ∙ P .in-line;
@@ -221,6 +226,7 @@ seat-place f g p o v u A L P = record {
   owed = rw (L .links, L .reads, L .grants, A .target-is, A .active-is) (P .owed);
 }
 
+-- the end of the line is kept where the last one is
 pub front-end : (f g : ℕ → ℕ) (p o : View) → g 0 ≡ f 0 → Front f g p o → End f p → End g o
 front-end f g p o t A E = record {
   tail = t ∙ E .tail ∙ sym (A .link-is);
@@ -235,24 +241,29 @@ pub record Like (f g : ℕ → ℕ) (v u : View) : Type 0 where
   pub seat : joined v ≡ true → Seat f g v u
   pub front : joined v ≡ true → Front f g v u
 
+-- nobody is ahead of the first
 front-away : (f g : ℕ → ℕ) → Front f g away away
 front-away f g = record { link-is = refl; active-is = refl; target-is = refl; waking-is = refl; next-is = inl refl }
 
+-- what the one behind sees of the card ahead
 like-who : (f g : ℕ → ℕ) (V U : ℕ → View) → ((d : ℕ) → Like f g (V d) (U d)) → (p : ℕ) → Ok V p
     → Front f g (who V p) (who U p)
 like-who f g V U L zero o = front-away f g
 like-who f g V U L (suc c) o = L c .front o
 
+-- the first may still be in
 led-like : (f g : ℕ → ℕ) (V U : ℕ → View) → ((d : ℕ) → Like f g (V d) (U d)) → (l : List ℕ) (p : ℕ) → Chain f V p l
     → Led f V l → Led g U l
 led-like f g V U L [] p h k = tt
 led-like f g V U L (c ∷ l) p h k = L c .seat (h .0 .in-line) .grants ∙ k
 
+-- the wake that is owed is still owed
 due-like : (f g : ℕ → ℕ) (V U : ℕ → View) → ((d : ℕ) → Like f g (V d) (U d)) → (q : ℕ) (l : List ℕ) (p : ℕ)
     → Chain f V p l → Due f V q l → Due g U q l
 due-like f g V U L q [] p h k = k
 due-like f g V U L q (c ∷ l) p h k = let s = L c .seat (h .0 .in-line) in (k .0 ∙ sym (s .links), s .grants ∙ k .1)
 
+-- who is to wake the first
 baton-like : (f g : ℕ → ℕ) (V U : ℕ → View) → ((d : ℕ) → Like f g (V d) (U d)) → (l : List ℕ) → Chain f V 0 l
     → Baton f V l → Baton g U l
 baton-like f g V U L l h (inl k) = inl (λ d. L d .holds ∙ k .0 d, led-like f g V U L l 0 h (k .1))

@@ -32,6 +32,7 @@ reader-state f (seesR n q) r j k e = omega arith
 reader-state f (wakesR n q) r j k e = omega arith
 reader-state f (hands n q) r j k e = clash false j refl
 
+-- a writer in line has state 2
 writer-state : (f : ℕ → ℕ) (v : View) → reader v ≡ false → joined v ≡ true → Cells f v → f (state (node v)) ≡ 2
 writer-state f away r j k = clash false j refl
 writer-state f (comesW n) r j k = clash false j refl
@@ -49,6 +50,7 @@ writer-state f (hands n q) r j k = clash false j refl
 at2 : (f : ℕ → ℕ) (a x b y d : ℕ) → (d ≡ a → ⊥) → (d ≡ b → ⊥) → at (at f a x) b y d ≡ f d
 at2 f a x b y d h k = at-other (at f a x) b y d k ∙ at-other f a x d h
 
+-- a function changed, seen under another
 at-under : (f : ℕ → ℕ) (a x b y : ℕ) → (a ≡ b → ⊥) → at (at f a x) b y a ≡ x
 at-under f a x b y h = at-other (at f a x) b y a h ∙ at-same f a x
 
@@ -200,10 +202,12 @@ record Leaver (f : ℕ → ℕ) (v : View) (n : ℕ) : Type 0 where
   handless : hand v ≡ 0
   kind : (active v ≡ true) ⊎ (reader v ≡ false)
 
+-- a writer taken out of the line
 writer-leaves : (f : ℕ → ℕ) (n : ℕ) → Leaver f (holdsW n) n
 writer-leaves f n = record
     { in-line = refl; let-in = refl; aimless = refl; has = refl; handless = refl; kind = inr refl }
 
+-- a reader taken out of the line
 reader-leaves : (f : ℕ → ℕ) (n : ℕ) → Leaver f (activeR n) n
 reader-leaves f n = record
     { in-line = refl; let-in = refl; aimless = refl; has = refl; handless = refl; kind = inl refl }

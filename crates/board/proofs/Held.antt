@@ -180,6 +180,7 @@ has-written a none = false
 has-written a (live r w) = wrote w a
 has-written a doomed = false
 
+-- whether it has marked or written a cell
 abbrev pub has-touched : ℕ → Tx → Bool
 has-touched a none = false
 has-touched a (live r w) = cond (wrote w a) true (marked r a)

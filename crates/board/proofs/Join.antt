@@ -19,16 +19,19 @@ in-join c d [] i = absurd i
 in-join c d (a ∷ l) (inl e) = inl e
 in-join c d (a ∷ l) (inr i) = inr (in-join c d l i)
 
+-- the last is in
 in-last : (c : ℕ) (l : List ℕ) → In c (l ++ (c ∷ []))
 in-last c [] = inl refl
 in-last c (a ∷ l) = inr (in-last c l)
 
+-- whoever is in a list with one more
 in-split : (c d : ℕ) (l : List ℕ) → In c (l ++ (d ∷ [])) → In c l ⊎ (c ≡ d)
 in-split c d [] (inl e) = inr e
 in-split c d [] (inr i) = absurd i
 in-split c d (a ∷ l) (inl e) = inl (inl e)
 in-split c d (a ∷ l) (inr i) = ⊎-elim (λ j. inl (inr j)) inr (in-split c d l i)
 
+-- one more that was not in
 once-join : (d : ℕ) (l : List ℕ) → Once l → (In d l → ⊥) → Once (l ++ (d ∷ []))
 once-join d [] u n = (λ i. i, tt)
 once-join d (a ∷ l) u n =

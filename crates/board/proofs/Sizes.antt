@@ -39,6 +39,7 @@ made-is : {X : Type 0} (memory : X) (j : Result Size SizeFault)
 made-is memory (Ok z) = refl
 made-is memory (Err e) = refl
 
+-- by what set-up has to give
 pub fresh : {X : Type 0} (memory : X) (c n k : ℕ) (r : Result (Size × DoorState) (Unfit X)) (z : Size) (s : DoorState)
     → r ≡ Ok (z, s) → r ≡ set-up memory c n k → s ≡ new-door
 fresh memory c n k r z s p q = fresh-by memory (sized c n k) r z s p (q ∙ made-is memory (sized c n k))
@@ -55,6 +56,7 @@ played-by memory (Ok x) r cs y z s t p q e f =
     λ i. Ok (zx i, tx i)
 played-by memory (Err e) r cs y z s t p q _ _ = let w : _≡_ {A = ℕ} 0 1 = cc in absurd (omega arith)
 
+-- by what calls on a new board have to give
 pub plays : {X : Type 0} (memory : X) (c n k : ℕ) (r : Result (Size × DoorState) (Unfit X)) (cs : List Call)
     (y z : Size)
     (s t : DoorState) → r ≡ Ok (y, s) → r ≡ set-up memory c n k → z ≡ y → t ≡ ran y s cs

@@ -26,6 +26,7 @@ pub data View : Type 0 where
   comesW comesR waitsW waitsR holdsW turnR activeR : ℕ → View
   seesR wakesR hands : ℕ → ℕ → View
 
+-- the view of each stage
 abbrev pub view : Stage → View
 view Idle = away
 view (WriterEnters n W1) = comesW n
@@ -66,6 +67,7 @@ view (ReaderLeaves n (Y8 q)) = hands n q
 view (Adds n (A1 k x)) = holdsW n
 view (Adds n (A2 k x v)) = holdsW n
 
+-- its node
 abbrev pub node : View → ℕ
 node away = 0
 node (comesW n) = n
@@ -107,6 +109,7 @@ joined (wakesR n q) = true
 joined (activeR n) = true
 joined (hands n q) = false
 
+-- whether it is a reader
 abbrev pub reader : View → Bool
 reader away = false
 reader (comesW n) = false
@@ -148,6 +151,7 @@ target (wakesR n q) = q
 target (activeR n) = 0
 target (hands n q) = 0
 
+-- whether it is about to wake the node behind
 abbrev pub waking : View → Bool
 waking away = false
 waking (comesW n) = false

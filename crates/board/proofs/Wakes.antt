@@ -161,6 +161,7 @@ firm-x5 n q = record {
   alone = λ N c. refl;
 }
 
+-- a leaving reader about to wake
 firm-y8 : (n q : ℕ) → Firm (ReaderLeaves n (Y8 q))
 firm-y8 n q = record {
   busy = λ e. let w : _≡_ {A = ℕ} 0 1 = cc in omega arith;
@@ -168,6 +169,7 @@ firm-y8 n q = record {
   alone = λ N c. refl;
 }
 
+-- a reader about to look behind
 firm-r13 : (n q : ℕ) → Firm (ReaderEnters n (R13 q))
 firm-r13 n q = record {
   busy = λ e. let w : _≡_ {A = ℕ} 0 1 = cc in omega arith;
@@ -175,6 +177,7 @@ firm-r13 n q = record {
   alone = λ N c. refl;
 }
 
+-- a reader about to wake
 firm-r14 : (n q : ℕ) → Firm (ReaderEnters n (R14 q))
 firm-r14 n q = record {
   busy = λ e. let w : _≡_ {A = ℕ} 0 1 = cc in omega arith;
@@ -182,6 +185,7 @@ firm-r14 n q = record {
   alone = λ N c. refl;
 }
 
+-- a waiting reader
 firm-r8 : (n : ℕ) → Firm (ReaderEnters n R8)
 firm-r8 n = record {
   busy = λ e. let w : _≡_ {A = ℕ} 0 1 = cc in omega arith;
