@@ -1,10 +1,12 @@
 -- A schedule that is run, event after event, and the ways out of it. Assumes nothing.
+use mathlib.Core.Bool.{true}
 use mathlib.Core.Path.{_≡_, refl, sym, ap, subst, _∙_}
 use mathlib.Core.List.{List, [], _∷_, _++_, append-assoc, append-nil}
 use Prim.Native.Nat.{ℕ, suc, _+_, _≤_, _<_}
 use native.Mathlib.Omega.{arith}
 use lib.ListN.{length}
-use Rattle.std.specs.Results.{ErrBy}
+use Rattle.std.specs.Results.{ErrBy, isErr}
+use Rattle.std.specs.Vec.{made}
 use Rattle.std.specs.declared.result.Result.{Result}
 use Rattle.std.specs.declared.result.Result.the-variants.{Ok, Err}
 use Rattle.std.proofs.shelf.Lists.{length-push}
@@ -143,17 +145,17 @@ playing-none bs start head body s z at count short fits new stands section few c
 module _ {bs start now : List ℕ} {z : Size} {at : DoorState} {count index : ℕ} {rest : List ℕ}
     (p : Playing bs start now z at count index rest) where
   -- one event more
-  pub playing-more : (next piece after : List ℕ) (y : Size) (to : DoorState) (n : ℕ) (e : Event) (k : Call)
-      (r : Result Answer DoorFault) → index < count → EventLine rest e after → k ≡ call-of-event e
-      → (r, to) ≡ called z at k → y ≡ z → Carries z k at to r
+  pub playing-more : (next piece after : List ℕ) (y : Size) (to : DoorState) (n : ℕ) (e : Event)
+      (r : Result Answer DoorFault) → index < count → EventLine rest e after
+      → (r, to) ≡ called z at (call-of-event e) → y ≡ z → Carries z (call-of-event e) at to r
       → next ≡ now ++ piece → piece ≡ answerLine n r → n ≡ index + 1
       → Playing bs start next y to count (index + 1) after
-  playing-more next piece after y to n e k r lt line is moves same carries pushed piece-is number =
+  playing-more next piece after y to n e r lt line moves same carries pushed piece-is number =
       let reached = p .reached in
       let here : n ≡ length (p .done) + 1 = omega arith in
       let M : _≡_ {A = Result Answer DoorFault × DoorState} (r, to)
       (called z (door.ran z new-door (calls-of (p .done))) (call-of-event e)) =
-      moves ∙ (λ i. called z (p .state i) (is i)) in
+      moves ∙ ap (λ (x : DoorState). called z x (call-of-event e)) (p .state) in
       let C = carries (calls-of (p .done)) (p .follows) .after .follows in
       subst (λ w. Playing bs start next w to count (index + 1) after) (sym same) (record {
         sizes = p .sizes;
@@ -162,8 +164,7 @@ module _ {bs start now : List ℕ} {z : Size} {at : DoorState} {count index : �
         fits = p .fits;
         reached = omega (arith, length-push (p .done) e);
         progress = progress-more e after (p .progress) (omega arith) line;
-        follows = subst (λ cs. Follows z cs to)
-            (ap (λ c. calls-of (p .done) ++ c ∷ []) is ∙ sym (calls-push (p .done) e)) C;
+        follows = subst (λ cs. Follows z cs to) (sym (calls-push (p .done) e)) C;
         state = ap (λ (w : Result Answer DoorFault × DoorState). w .1) M ∙ sym (state-push z (p .done) e);
         told = pushed
             ∙ (λ i. p .told i ++ (piece-is ∙ ap (λ (w : Result Answer DoorFault × DoorState). answerLine n (w .0)) M) i)
@@ -243,3 +244,9 @@ prints meaning bs start now out last (Err (Form f)) none t v is =
 prints meaning bs start now out last (Err (Sizes e)) none t v is =
     subst (Prints bs) (sym (is ∙ (λ i. (t .1 ∙ ap (λ l. l ++ t .0) none) i ++ v i))) (t .2)
 prints meaning bs start now out last (Err Memory) none t v is = absurd v
+
+-- nothing is printed for want of memory
+pub prints-none : {S E : Type 0} (bytes : S → List ℕ) (bs : List ℕ) (r : Result S E) → isErr r ≡ true
+    → made r (λ s. Prints bs (bytes s))
+prints-none bytes bs (Ok s) e = let w : _≡_ {A = ℕ} 0 1 = cc in absurd (omega arith)
+prints-none bytes bs (Err x) e = tt

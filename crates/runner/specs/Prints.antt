@@ -12,7 +12,7 @@ use Rattle.lock.specs.Lock.{Size, sized}
 use Rattle.door.specs.declared.fault.DoorFault.{DoorFault}
 use Rattle.door.specs.Door.{new-door, answers}
 use Rattle.board.specs.Book.{fed}
-use Rattle.board.specs.History.{nodes-of}
+use Rattle.board.specs.History.{nodes-of, Stands-throughout}
 use Rattle.textline.specs.declared.events.Event.{Event}
 use Rattle.textline.specs.declared.events.SizeLines.{SizeLines}
 use Rattle.textline.specs.declared.faults.FormFault.the-variants.{TooLong, BadLine}
@@ -69,3 +69,11 @@ pub data Prints (bs : List ℕ) : List ℕ → Type 0 where
   -- there is such a board, and the events are run on it
   ran : (s : SizeLines) (after : List ℕ) (z : Size) (x : List ℕ) → length bs ≤ 65535 → SizeSection bs s after
       → asks s ≡ Ok z → Runs bs s z x → Prints bs x
+
+-- what is printed for a text is one: the memory under the board has no say in it
+abbrev pub OnePrint : Type 0
+OnePrint = (bs x y : List ℕ) → Prints bs x → Prints bs y → x ≡ y
+
+-- the promise of the board stands before the first event and after each, on every board that size lines ask for
+abbrev pub PromiseStands : Type 0
+PromiseStands = (s : SizeLines) (z : Size) (es : List Event) → asks s ≡ Ok z → Stands-throughout z (calls-of es)

@@ -1,7 +1,12 @@
 // A whole schedule, run on a board.
+ghost use mathlib.Core.Path.{_≡_};
+ghost use Prim.Native.Nat.{_+_, _<_};
 ghost use Rattle.std.specs.Of.String.{string-bytes};
 ghost use Rattle.std.specs.Vec.{made};
-ghost use Rattle.runner.specs.Prints.{Prints};
+ghost use Rattle.door.specs.Door.{called};
+ghost use Rattle.board.specs.History.{board-state, board-size, Carries};
+ghost use Rattle.runner.specs.Calls.{call-of-event};
+ghost use Rattle.runner.specs.Prints.{Prints, OnePrint, PromiseStands};
 ghost use Rattle.runner.specs.Plays.{Plays, Ends, Queues};
 use crate::calls::call_of;
 use crate::faults::RunFault;
@@ -9,17 +14,39 @@ use crate::faults::RunFaultFromAlloc;
 use crate::faults::RunFaultFromForm;
 use crate::faults::RunFaultFromUnfit;
 use board::board::Board;
+use door::fault::DoorFault;
 use memory::memory::Memory;
 use report::answer_line;
 use report::bad_line;
 use report::queue_line;
 use report::refused_sizes;
+use schedule::Event;
 use schedule::take_count;
 use schedule::take_end;
 use schedule::take_event;
 use schedule::take_sizes;
+use stages::answer::Answer;
 use std::alloc::AllocError;
 use std::alloc::Global;
+
+// The number that is printed for the event that is number `index`, counted from 0.
+fn number_of(index: u16) -> u16
+    requires { ⌜ index < 65535 ⌝ }
+    ensures { λ r. ⌜ r ≡ index + 1 ⌝ }
+{
+    index + 1
+}
+
+// Runs an event on a board.
+fn take_turn<M: Memory>(board: &mut Board<M>, event: Event) -> Result<Answer, DoorFault>
+    ensures moves { λ r. ⌜ (r, board-state meaning (now (board .exit)))
+        ≡ called (board-size (now (board .entry))) (board-state meaning (now (board .entry))) (call-of-event event) ⌝ }
+    ensures same { λ _. ⌜ board-size (now (board .exit)) ≡ board-size (now (board .entry)) ⌝ }
+    ensures promise { λ r. ⌜ Carries (board-size (now (board .entry))) (call-of-event event)
+        (board-state meaning (now (board .entry))) (board-state meaning (now (board .exit))) r ⌝ }
+{
+    board.call(call_of(event))
+}
 
 // Sets a board up and runs the events of `text` on it, each before the next line is read. Appends the line of every
 // answer to `out`, up to the end of the text or to the first line at fault.
@@ -37,8 +64,8 @@ fn play<M: Memory + Drop>(
     let (count, mut rest) = take_count(rest)?;
     for index in 0..count {
         let (event, after) = take_event(rest, index)?;
-        let answer = board.call(call_of(event));
-        out.push_str(answer_line(heap, index + 1, answer)?.as_str())?;
+        let answer = take_turn(&mut board, event);
+        out.push_str(answer_line(heap, number_of(index), answer)?.as_str())?;
         rest = after;
     }
     take_end(rest, count)?;
@@ -71,7 +98,9 @@ fn last_line<M: Memory + Drop>(
 
 // All that is printed for `text`, on any memory.
 pub fn run<M: Memory + Drop>(heap: Global, memory: M, text: &[u8]) -> Result<String, AllocError>
-    ensures { λ r. ⌜ made r (λ s. Prints (now (text .entry)) (string-bytes s)) ⌝ }
+    ensures prints { λ r. ⌜ made r (λ s. Prints (now (text .entry)) (string-bytes s)) ⌝ }
+    ensures one { λ _. ⌜ OnePrint ⌝ }
+    ensures promise { λ _. ⌜ PromiseStands ⌝ }
 {
     let mut out = String::new(heap);
     let end = play(heap, memory, &mut out, text);

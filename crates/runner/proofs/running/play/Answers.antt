@@ -52,10 +52,10 @@ returns-in-Break-push-str g c =
 
 pub loop-index-again : need.loop-index-again
 loop-index-again g c =
-    playing-more (c .loop-index .inv) _ _ _ _ _ _ _ _ _ (omega arith) (c .in-Continue-event .ensures tt) (c .call-of .ensures)
-    (c .call-answer .ensures .moves) (c .call-answer .ensures .same) (c .call-answer .ensures .promise)
+    playing-more (c .loop-index .inv) _ _ _ _ _ _ _ _ (omega arith) (c .in-Continue-event .ensures tt)
+    (c .take-turn-answer .ensures .moves) (c .take-turn-answer .ensures .same) (c .take-turn-answer .ensures .promise)
     (c .in-Continue-push-str .ensures tt .bytes)
-    (c .as-str .ensures .value ∙ c .in-Continue-answer-line .ensures tt) refl
+    (c .as-str .ensures .value ∙ c .in-Continue-answer-line .ensures tt) (c .number-of .ensures)
 
 pub returns-in-Break-take-end : need.returns-in-Break-take-end
 returns-in-Break-take-end g c =
