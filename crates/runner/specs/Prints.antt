@@ -12,7 +12,7 @@ use Rattle.lock.specs.Lock.{Size, sized}
 use Rattle.door.specs.declared.fault.DoorFault.{DoorFault}
 use Rattle.door.specs.Door.{new-door, answers}
 use Rattle.board.specs.Book.{fed}
-use Rattle.board.specs.History.{nodes-of, Stands-throughout}
+use Rattle.board.specs.History.{nodes-of, Carried-throughout}
 use Rattle.textline.specs.declared.events.Event.{Event}
 use Rattle.textline.specs.declared.events.SizeLines.{SizeLines}
 use Rattle.textline.specs.declared.faults.FormFault.the-variants.{TooLong, BadLine}
@@ -76,4 +76,4 @@ OnePrint = (bs x y : List ℕ) → Prints bs x → Prints bs y → x ≡ y
 
 -- the promise of the board stands before the first event and after each, on every board that size lines ask for
 abbrev pub PromiseStands : Type 0
-PromiseStands = (s : SizeLines) (z : Size) (es : List Event) → asks s ≡ Ok z → Stands-throughout z (calls-of es)
+PromiseStands = (s : SizeLines) (z : Size) (es : List Event) → asks s ≡ Ok z → Carried-throughout z [] (calls-of es)
