@@ -125,7 +125,7 @@ fits-next {bs} {done} {rest} b f =
       goes = k .1;
     }
 
--- the next line is the first at which the text stops to be that of a schedule
+-- the next line is the first at which the text stops being that of a schedule
 pub stops : {bs : List ℕ} {done : List (List ℕ)} {rest : List ℕ} (line : ℕ) → line ≡ length done + 1
     → Begun bs done rest
     → Fits (length done) bs → (Next done rest → ⊥) → StopsAt line bs
