@@ -1,0 +1,54 @@
+// Reads a schedule from standard input, runs it on a board and prints what every event answered.
+// A word on the command line names the memory under the board: `deferred`, as without a word, or `inplace`.
+use deferred::calls::DeferredMemory;
+use deferred::deferred::Deferred;
+use inplace::calls::InPlaceMemory;
+use inplace::inplace::InPlace;
+use std::alloc::Global;
+use std::env;
+use std::error::AnyError;
+use std::io::Read;
+
+// One byte more than a schedule may have, so that a longer text is seen to be too long.
+const LIMIT: u64 = 65536;
+
+// The memory that a board is set up on.
+#[derive(Clone, Copy)]
+enum Choice {
+    Deferred,
+    InPlace,
+}
+
+// The memory that a word names.
+fn named(heap: Global, word: &str) -> Result<Choice, AnyError> {
+    match word {
+        "deferred" => Ok(Choice::Deferred),
+        "inplace" => Ok(Choice::InPlace),
+        _ => Err(format!(heap, "no memory is called {word}: say deferred or inplace")?.into()),
+    }
+}
+
+// The memory that the command line asks for.
+fn chosen(rt: LibcRuntime) -> Result<Choice, AnyError> {
+    let mut words = env::args(&rt)?.skip(1);
+    let Some(word) = words.next() else {
+        return Ok(Choice::Deferred);
+    };
+    if words.next().is_some() {
+        return Err("more than one word: say deferred or inplace, or nothing".into());
+    }
+    named(rt.alloc(), word.as_str())
+}
+
+fn main(rt: LibcRuntime) -> Result<(), AnyError> {
+    let heap = rt.alloc();
+    let choice = chosen(rt)?;
+    let mut text = Vec::new(heap);
+    rt.stdin().take(LIMIT).read_to_end(&mut text)?;
+    let out = match choice {
+        Choice::Deferred => runner::run(heap, Deferred::new(), text.as_slice())?,
+        Choice::InPlace => runner::run(heap, InPlace::new(), text.as_slice())?,
+    };
+    rt.print(out.as_str())?;
+    Ok(())
+}
