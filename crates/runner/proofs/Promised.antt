@@ -1,14 +1,12 @@
 -- The promise stands on every board that size lines ask for. Assumes nothing.
-use mathlib.Core.Path.{_≡_, refl, sym, ap, _∙_}
 use mathlib.Core.List.{[]}
+use mathlib.Core.Path.{_≡_, refl, sym, ap}
 use mathlib.Core.Bool.{Bool, true, false, cond}
 use Prim.Native.Nat.{ℕ, _≤_}
 use native.Mathlib.Omega.{arith}
 use lib.Dec.{leb}
 use borrow.Author.Tests.{leb-true}
-use Rattle.std.specs.declared.result.Result.{Result}
 use Rattle.std.specs.declared.result.Result.the-variants.{Ok, Err}
-use Rattle.lock.specs.declared.fault.SizeFault.{SizeFault}
 use Rattle.lock.specs.declared.fault.SizeFault.the-variants.{OutOfRange}
 use Rattle.lock.specs.Lock.{Size, within, sized}
 use Rattle.board.proofs.Ranges.{Within}
