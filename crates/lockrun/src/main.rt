@@ -24,7 +24,7 @@ fn named(heap: Global, word: &str) -> Result<Choice, AnyError> {
     match word {
         "deferred" => Ok(Choice::Deferred),
         "inplace" => Ok(Choice::InPlace),
-        _ => Err(format!(heap, "no memory is called {word}: say deferred or inplace")?.into()),
+        _ => Err(format!(heap, "say deferred or inplace: no memory is called {word}")?.into()),
     }
 }
 
@@ -35,12 +35,13 @@ fn chosen(rt: LibcRuntime) -> Result<Choice, AnyError> {
         return Ok(Choice::Deferred);
     };
     if words.next().is_some() {
-        return Err("more than one word: say deferred or inplace, or nothing".into());
+        return Err("say deferred or inplace, or nothing: there is more than one word".into());
     }
     named(rt.alloc(), word.as_str())
 }
 
-fn main(rt: LibcRuntime) -> Result<(), AnyError> {
+// Reads, runs and prints.
+fn run(rt: LibcRuntime) -> Result<(), AnyError> {
     let heap = rt.alloc();
     let choice = chosen(rt)?;
     let mut text = Vec::new(heap);
@@ -51,4 +52,9 @@ fn main(rt: LibcRuntime) -> Result<(), AnyError> {
     };
     rt.print(out.as_str())?;
     Ok(())
+}
+
+// An error goes to standard error, and its status is a failure.
+fn main(rt: LibcRuntime) -> Result<(), AnyError> {
+    rt.report(run(rt))
 }

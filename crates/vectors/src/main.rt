@@ -31,7 +31,8 @@ fn holds(rt: LibcRuntime, name: &str) -> Result<bool, AnyError> {
     Ok(deferred && inplace)
 }
 
-fn main(rt: LibcRuntime) -> Result<(), AnyError> {
+// Says of each schedule whether it holds, and how many do.
+fn run(rt: LibcRuntime) -> Result<(), AnyError> {
     let mut alike = 0u32;
     for line in rt.lines(rt.alloc()) {
         let name = line?;
@@ -44,4 +45,8 @@ fn main(rt: LibcRuntime) -> Result<(), AnyError> {
     }
     println!(rt, "{alike} schedules ran alike on both memories")?;
     Ok(())
+}
+
+fn main(rt: LibcRuntime) -> Result<(), AnyError> {
+    rt.report(run(rt))
 }
