@@ -1,7 +1,7 @@
 -- Every book that is fed calls keeps the invariant and the two laws.
 use mathlib.Core.Path.{_≡_, refl, sym, subst, ap}
 use mathlib.Core.Bool.{Bool, true, false, cond}
-use mathlib.Core.List.{List, [], _∷_, _++_}
+use mathlib.Core.List.{List, [], _∷_}
 use Prim.Native.Nat.{ℕ, zero, suc, _<_}
 use native.Mathlib.Omega.{arith}
 use lib.Dec.{eqb, ltb}
@@ -13,13 +13,12 @@ use Rattle.std.specs.declared.result.Result.the-variants.{Ok, Err}
 use Rattle.std.proofs.shelf.Tests.{ltb-true}
 use Rattle.memory.specs.Meaning.{Tx, none, standing, tx-of, cleared}
 use Rattle.stages.specs.declared.answer.Answer.{Answer}
-use Rattle.stages.specs.declared.stage.Stage.{Stage}
 use Rattle.stages.specs.declared.stage.Stage.the-variants.{Idle}
 use Rattle.stages.specs.declared.stage.Card.{Card}
 use Rattle.stages.specs.Layout.{counter-cell}
 use Rattle.lock.specs.declared.fault.LockFault.{LockFault}
 use Rattle.lock.specs.declared.fault.LockFault.the-variants.{NoCard}
-use Rattle.lock.specs.Lock.{Size, LockState, Turn, stage-of, new-lock, idle-card, stepped, aborted, reused}
+use Rattle.lock.specs.Lock.{Size, Turn, stage-of, new-lock, idle-card, stepped, aborted, reused}
 use Rattle.door.specs.declared.fault.DoorFault.{DoorFault}
 use Rattle.door.specs.declared.fault.DoorFault.the-variants.{Malformed, Differs, Lock}
 use Rattle.door.specs.declared.request.Request.{Request}
@@ -27,10 +26,12 @@ use Rattle.door.specs.declared.request.Memo.{Memo}
 use Rattle.door.specs.declared.call.Call.{Call}
 use Rattle.door.specs.declared.call.Call.the-variants as call
 use Rattle.door.specs.Faults as door
-use Rattle.door.specs.Door.{DoorState, Reply, no-memo, new-memo, new-door, memo-of, worded, understood, same, told, resent}
+use Rattle.door.specs.Door.{DoorState, Reply, no-memo, new-memo, new-door, memo-of, worded, understood, same, told}
+use Rattle.door.specs.Door.{resent}
 use Rattle.door.specs.Door.{served, noted, judged, asked, passed, called}
 use Rattle.board.specs.Book.{Book, Place, Sum, lined, summed, step-deed, after, new-book, fed-from, fed}
-use Rattle.board.specs.Promise.{Within, Never-8, Stands, cells-of}
+use Rattle.board.specs.Promise.{Never-8, Stands, cells-of}
+use Rattle.board.proofs.Ranges.{Within}
 use Rattle.board.proofs.Cells.{clash}
 use Rattle.board.proofs.Held.{in-tx, has-written, Agrees}
 use Rattle.board.proofs.Sound.{Sound}
@@ -78,10 +79,12 @@ abbrev Well : Result Request DoorFault → Type 0
 Well (Ok w) = Unit {0}
 Well (Err e) = door.number e ≡ 8 → ⊥
 
+-- both ways of a test
 well-cond : (b : Bool) (x y : Result Request DoorFault) → Well x → Well y → Well (cond b x y)
 well-cond true x y h k = h
 well-cond false x y h k = k
 
+-- the form of a request is judged by refusal 3 alone
 understood-well : (t k a b : ℕ) → Well (understood t k a b)
 understood-well t k a b =
     let no : door.number Malformed ≡ 8 → ⊥ = λ e. omega arith in
@@ -108,7 +111,8 @@ module _ (z : Size) (W : Within z) where
     pub never : Calm (s .memos) → Never-8 (p .0)
 
   -- an event that is no request
-  passed-fair : (s : DoorState) (p : Turn) (l : List Place) (q : List Sum) → Good z p l q → Fair-reply s (passed s p) l q
+  passed-fair : (s : DoorState) (p : Turn) (l : List Place) (q : List Sum) → Good z p l q
+      → Fair-reply s (passed s p) l q
   passed-fair s p l q g = record { safe = g .0; calm = λ k. k; never = λ _. told-never (p .0) (g .1) }
 
   -- a request of a card that there is
@@ -118,7 +122,8 @@ module _ (z : Size) (W : Within z) where
   judged-fair s l q h c lt t (Ok w) n = go (eqb (memo-of s c .toggle) t)
     where
       go : (b : Bool) → Fair-reply s
-          (cond b (resent (memo-of s c .request) w (memo-of s c .answer), s) (noted s c t w (served z (s .lock) c w))) l q
+          (cond b (resent (memo-of s c .request) w (memo-of s c .answer), s)
+          (noted s c t w (served z (s .lock) c w))) l q
       go true = record {
         safe = h;
         calm = λ k. k;
@@ -178,7 +183,8 @@ module _ (z : Size) (W : Within z) where
   whole-after b k I = record {
     inv = keep b k (I .inv);
     lawful = lawful-after z b (W .cards) (I .inv .kept .cards) (I .lawful) k;
-    calm = subst (λ (s : DoorState). Calm (s .memos)) (sym (board-after z b k)) (call-fair b (I .inv) k .calm (I .calm));
+    calm = subst (λ (s : DoorState). Calm (s .memos)) (sym (board-after z b k))
+        (call-fair b (I .inv) k .calm (I .calm));
   }
 
   -- a board newly set up has them

@@ -10,10 +10,11 @@ use Rattle.std.proofs.shelf.Tests.{ne-eqb}
 use Rattle.board.proofs.Cells.{at, next, prev, state, spin}
 use Rattle.board.proofs.Chain.{without}
 use Rattle.board.proofs.Cells.{at-same, at-other, clash}
-use Rattle.board.proofs.Views.{View, away, comesW, comesR, waitsW, waitsR, holdsW, turnR, activeR, seesR, wakesR}
+use Rattle.board.proofs.Views.{link-node, View, away, comesW, comesR, waitsW, waitsR, holdsW, turnR, activeR, seesR}
+use Rattle.board.proofs.Views.{wakesR}
 use Rattle.board.proofs.Views.{hands, node, link, joined, reader, active, target, hand, granted, Cells}
 use Rattle.board.proofs.Chain.{Spot, who, Line}
-use Rattle.board.proofs.Moves.{joined-link, node-is, blocked}
+use Rattle.board.proofs.Moves.{joined-link, blocked}
 use Rattle.board.proofs.Join.{join-line}
 use Rattle.board.proofs.Leave.{leave-line}
 
@@ -31,6 +32,7 @@ reader-state f (seesR n q) r j k e = omega arith
 reader-state f (wakesR n q) r j k e = omega arith
 reader-state f (hands n q) r j k e = clash false j refl
 
+-- a writer in line has state 2
 writer-state : (f : ℕ → ℕ) (v : View) → reader v ≡ false → joined v ≡ true → Cells f v → f (state (node v)) ≡ 2
 writer-state f away r j k = clash false j refl
 writer-state f (comesW n) r j k = clash false j refl
@@ -48,6 +50,7 @@ writer-state f (hands n q) r j k = clash false j refl
 at2 : (f : ℕ → ℕ) (a x b y d : ℕ) → (d ≡ a → ⊥) → (d ≡ b → ⊥) → at (at f a x) b y d ≡ f d
 at2 f a x b y d h k = at-other (at f a x) b y d k ∙ at-other f a x d h
 
+-- a function changed, seen under another
 at-under : (f : ℕ → ℕ) (a x b y : ℕ) → (a ≡ b → ⊥) → at (at f a x) b y a ≡ x
 at-under f a x b y h = at-other (at f a x) b y a h ∙ at-same f a x
 
@@ -199,10 +202,12 @@ record Leaver (f : ℕ → ℕ) (v : View) (n : ℕ) : Type 0 where
   handless : hand v ≡ 0
   kind : (active v ≡ true) ⊎ (reader v ≡ false)
 
+-- a writer taken out of the line
 writer-leaves : (f : ℕ → ℕ) (n : ℕ) → Leaver f (holdsW n) n
 writer-leaves f n = record
     { in-line = refl; let-in = refl; aimless = refl; has = refl; handless = refl; kind = inr refl }
 
+-- a reader taken out of the line
 reader-leaves : (f : ℕ → ℕ) (n : ℕ) → Leaver f (activeR n) n
 reader-leaves f n = record
     { in-line = refl; let-in = refl; aimless = refl; has = refl; handless = refl; kind = inl refl }
@@ -213,7 +218,7 @@ module _ (f : ℕ → ℕ) (V : ℕ → View) (l : List ℕ) (I : Line f V l) (c
   next-of : (d : ℕ) → Spot f v (V d) → f (next n) ≡ suc (node (V d))
   next-of d P = let j = joined-link (V d) (P .in-line) in let h = K .has in
       ⊎-elim (λ z. absurd (omega arith))
-      (λ e. ap (λ (x : ℕ). f (next x)) (sym (node-is v n (K .in-line) (K .has))) ∙ e ∙ j) (P .from)
+      (λ e. ap (λ (x : ℕ). f (next x)) (sym (link-node v n (K .has))) ∙ e ∙ j) (P .from)
 
   leave-only : b ≡ 0 → f (next n) ≡ 0 → Line (at f 0 0) (at V c away) (without c l)
   leave-only eb eq = leave-line f (at f 0 0) V l I c n b 0 v away is (record {
@@ -342,7 +347,7 @@ module _ (f : ℕ → ℕ) (V : ℕ → View) (l : List ℕ) (I : Line f V l) (c
       → f (state (node (V d))) ≡ f (state k)
   behind-state k e d P =
       let z = ⊎-elim (λ z. absurd (omega arith)) (λ h. sym h ∙ e) (P .from) in
-      ap (λ (x : ℕ). f (state x)) (node-is (V d) k (P .in-line) z)
+      ap (λ (x : ℕ). f (state x)) (link-node (V d) k z)
 
   -- behind the first stands a writer: it will be woken
   pub outR-hands : (k : ℕ) → b ≡ 0 → f (next n) ≡ suc k → f (state k) ≡ 2

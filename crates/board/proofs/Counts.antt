@@ -78,6 +78,7 @@ Keeps N f (ReaderLeaves n at) = Unit {0}
 abbrev Loads : ℕ → (ℕ → ℕ) → Stage → Type 0
 Loads N f s = (n k a v : ℕ) → s ≡ Adds n (A2 k a v) → v ≡ f (counter-cell N k)
 
+-- a stage that is not about to store has loaded nothing
 loaded-keeps : (N : ℕ) (f : ℕ → ℕ) (s : Stage) → Keeps N f s → Loads N f s
 loaded-keeps N f s h n k a v e = subst (Keeps N f) e h
 

@@ -27,12 +27,12 @@ use Rattle.stages.specs.declared.stage.Stage.the-variants.{Adds, WriterLeaves, 
 use Rattle.stages.specs.Layout.{cell-of, node-cell, counter-cell}
 use Rattle.stages.specs.Rows.{call-of, capped}
 use Rattle.board.proofs.Cells.{at, at-other, next, prev, state, spin}
-use Rattle.board.proofs.Views.{View, view, comesR, holdsW, turnR, activeR, wakesR}
+use Rattle.board.proofs.Views.{link-node, View, view, comesR, holdsW, turnR, activeR, wakesR}
 use Rattle.board.proofs.Views.{hands, node, link, joined, reader, target}
 use Rattle.board.proofs.Chain.{Spot, End, who, Line, chain-end, chain-behind, chain-place}
 use Rattle.board.proofs.Held.{reads, writes, Valid, Agrees}
 use Rattle.board.proofs.Model.{Out, seen, seen-on, commit-seen, lands}
-use Rattle.board.proofs.Moves.{node-is, aimed, hand-due, due-card}
+use Rattle.board.proofs.Moves.{aimed, hand-due, due-card}
 use Rattle.board.proofs.Sound.{Sound}
 use Rattle.board.proofs.Links.{views, sound-link}
 use Rattle.board.proofs.Steps.{Soft, soft-cell}
@@ -79,7 +79,7 @@ module _ (f : ℕ → ℕ) (V : ℕ → View) (l : List ℕ) (L : Line f V l) wh
       (chain-behind f V l 0 (L .chain) c (L .members c j))
     where
       here : f (next (node (V c))) ≡ f (next n)
-      here = ap (λ (x : ℕ). f (next x)) (node-is (V c) n j e)
+      here = ap (λ (x : ℕ). f (next x)) (link-node (V c) n e)
 
       ended : End f (V c) → Taken V k
       ended E = ⊎-elim (λ z. absurd (omega arith)) (λ z. let y = sym here ∙ z in absurd (omega arith)) (E .last)
@@ -90,7 +90,7 @@ module _ (f : ℕ → ℕ) (V : ℕ → View) (l : List ℕ) (L : Line f V l) wh
   pub has-prev : (c n m : ℕ) → joined (V c) ≡ true → reader (V c) ≡ true → link (V c) ≡ suc n → f (prev n) ≡ suc m
       → Taken V m
   has-prev c n m j r e h = let w = chain-place f V l (L .chain) c (L .members c j) in
-      go (w .0) (sym (w .2 .ahead r) ∙ ap (λ (x : ℕ). f (prev x)) (node-is (V c) n j e) ∙ h)
+      go (w .0) (sym (w .2 .ahead r) ∙ ap (λ (x : ℕ). f (prev x)) (link-node (V c) n e) ∙ h)
     where
       go : (p : ℕ) → link (who V p) ≡ suc m → Taken V m
       go zero q = absurd (omega arith)

@@ -42,9 +42,11 @@ line-begin f S l c L = line-same f S l c (begin-of (S c)) (view-begin (S c)) L
 pub view-leave-write : (n : ℕ) → view (WriterLeaves n X1) ≡ view (Inside n Write)
 view-leave-write n = refl
 
+-- a request of a reader to leave
 pub view-leave-read : (n : ℕ) → view (ReaderLeaves n Y1) ≡ view (Inside n Read)
 view-leave-read n = refl
 
+-- a request to add
 pub view-add : (n k a : ℕ) → view (Adds n (A1 k a)) ≡ view (Inside n Write)
 view-add n k a = refl
 
@@ -76,6 +78,7 @@ abbrev pub All-within : ℕ → List (ℕ × ℕ) → Type 0
 All-within n [] = Unit {0}
 All-within n (w ∷ ws) = Within n (w .0) × All-within n ws
 
+-- several such stores
 pub stored-line : (f : ℕ → ℕ) (V : ℕ → View) (l : List ℕ) (n : ℕ) (ws : List (ℕ × ℕ)) → All-within n ws → Unheld V n
     → Line f V l → Line (stored ws f) V l
 stored-line f V l n [] h u L = L
@@ -94,6 +97,7 @@ pub entry-within : (n : ℕ) (m : Mode) → All-within n (entry-stores n m)
 entry-within n Read = omega arith
 entry-within n Write = omega arith
 
+-- the stores of a reuse
 pub reuse-within : (n : ℕ) (v : NodeValues) → All-within n (reuse-stores n v)
 reuse-within n v = omega arith
 
@@ -190,5 +194,6 @@ free-card (r ∷ cs) n (suc d) h e = free-card cs n d (go (has-node (r .stage) n
     go true k = clash false k refl
     go false k = k
 
+-- so a node that is free is unheld
 pub free-unheld : (s : LockState) (n : ℕ) → free (s .cards) n ≡ true → Unheld (views (stage-of s)) n
 free-unheld s n h d e = free-card (s .cards) n d h e

@@ -8,13 +8,15 @@ use Rattle.memory.specs.declared.write.Write.{Write}
 use Rattle.memory.specs.Meaning.{Tx, none, live, doomed, wrote, marked}
 use Rattle.stages.specs.declared.stage.Mode.the-variants as mode
 use Rattle.stages.specs.declared.stage.WriterEntry.the-variants.{W1, W2, W3, W4, W5, W6}
-use Rattle.stages.specs.declared.stage.ReaderEntry.the-variants.{R1, R2, R3, R4, R5, R6, R7, R8, R9, R10, R11, R12, R13, R14}
+use Rattle.stages.specs.declared.stage.ReaderEntry.the-variants.{R1, R2, R3, R4, R5, R6, R7, R8, R9, R10, R11, R12}
+use Rattle.stages.specs.declared.stage.ReaderEntry.the-variants.{R13, R14}
 use Rattle.stages.specs.declared.stage.Addition.the-variants.{A1, A2}
 use Rattle.stages.specs.declared.stage.WriterExit.the-variants.{X1, X2, X3, X4, X5}
 use Rattle.stages.specs.declared.stage.ReaderExit.the-variants.{Y1, Y2, Y3, Y4, Y5, Y6, Y7, Y8}
 use Rattle.stages.specs.declared.stage.Stage.{Stage}
-use Rattle.stages.specs.declared.stage.Stage.the-variants.{Idle, WriterEnters, ReaderEnters, Inside, Adds, WriterLeaves, ReaderLeaves}
-use Rattle.board.proofs.Cells.{next, prev, state, spin}
+use Rattle.stages.specs.declared.stage.Stage.the-variants.{Idle, WriterEnters, ReaderEnters, Inside, Adds}
+use Rattle.stages.specs.declared.stage.Stage.the-variants.{WriterLeaves, ReaderLeaves}
+use Rattle.board.proofs.Cells.{next, prev, state}
 
 -- a cell with a value
 abbrev pub mk : ℕ → ℕ → Write
@@ -178,6 +180,7 @@ has-written a none = false
 has-written a (live r w) = wrote w a
 has-written a doomed = false
 
+-- whether it has marked or written a cell
 abbrev pub has-touched : ℕ → Tx → Bool
 has-touched a none = false
 has-touched a (live r w) = cond (wrote w a) true (marked r a)

@@ -1,20 +1,39 @@
 -- What every run keeps: the invariant of the book, from which the promise follows.
+--
+-- Why the lock works. A card changes the line in transactions: it reads what it goes by, writes what follows, and
+-- commits. The requester wins, so whoever touches a cell that another open transaction has written, or gives a value to
+-- one that it has marked, dooms that transaction. Hence two open transactions never overlap, and what a card has read
+-- is
+-- still true when its commit is accepted (`isolated`). So a commit acts on the line as if it had been made in one go,
+-- and the line is only ever changed by joinings at its end and by leavings.
+--
+-- Beside the links, the line says who may be in (`line`). Active readers are a front part of it. Whoever has been let
+-- in
+-- is first, or a reader right behind an active reader. The first in line has been let in, unless exactly one card that
+-- has just left still owes it a wake; and a waiting reader right behind an active reader is owed one by that reader,
+-- which
+-- has seen it in the very transaction that made it active. A card that owes a wake is outside of any transaction, so
+-- nothing can turn it back: its next step, or the one after, gives the wake.
+--
+-- A writer that is in is first and everybody else is behind it and has not been let in, so it is alone; and what it
+-- loads
+-- of a counter is what stands there when it stores (`counted`).
 use mathlib.Core.Path.{_≡_}
 use mathlib.Core.Bool.{Bool, true, false}
 use mathlib.Core.List.{List, [], _∷_}
-use Prim.Native.Nat.{ℕ, suc, _+_, _≤_, _<_, min}
+use Prim.Native.Nat.{ℕ, suc, _≤_, _<_, min}
 use lib.ListN.{length}
-use Rattle.memory.specs.Meaning.{Meaning, standing, tx-of}
+use Rattle.memory.specs.Meaning.{standing, tx-of}
 use Rattle.stages.specs.declared.stage.Mode.{Mode}
 use Rattle.stages.specs.declared.stage.Mode.the-variants.{Read, Write}
-use Rattle.stages.specs.declared.stage.Addition.the-variants.{A1, A2}
+use Rattle.stages.specs.declared.stage.Addition.the-variants.{A2}
 use Rattle.stages.specs.declared.stage.Stage.{Stage}
 use Rattle.stages.specs.declared.stage.Stage.the-variants.{Idle, Adds}
 use Rattle.stages.specs.Layout.{counter-cell}
 use Rattle.lock.specs.Lock.{Size, LockState, stage-of}
 use Rattle.board.specs.Book.{Book, Place, Sum}
 use Rattle.board.specs.Promise.{total}
-use Rattle.board.proofs.Views.{View, view, link, reader}
+use Rattle.board.proofs.Views.{view, link, reader}
 use Rattle.board.proofs.Chain.{Line}
 use Rattle.board.proofs.Held.{Isolated}
 use Rattle.board.proofs.Sound.{Sound}
@@ -24,6 +43,7 @@ abbrev pub cards-of : List Place → List ℕ
 cards-of [] = []
 cards-of (p ∷ l) = p .card ∷ cards-of l
 
+-- whether a mode is to read
 abbrev pub reads-mode : Mode → Bool
 reads-mode Read = true
 reads-mode Write = false

@@ -155,6 +155,7 @@ struck-written : (t : Tx) (b : Bool) (a : ℕ) → has-written a (cond b doomed 
 struck-written t true a h = clash false h refl
 struck-written t false a h = h
 
+-- a doom touches nothing new
 struck-touched : (t : Tx) (b : Bool) (a : ℕ) → has-touched a t ≡ false → has-touched a (cond b doomed t) ≡ false
 struck-touched t true a h = refl
 struck-touched t false a h = h
@@ -165,6 +166,7 @@ miss-reads none a = refl
 miss-reads doomed a = refl
 miss-reads (live r w) a = grind arith
 
+-- after a store or write nobody else has touched the cell
 miss-writes : (t : Tx) (a : ℕ) → has-touched a (struck Writes a t) ≡ false
 miss-writes none a = refl
 miss-writes doomed a = refl

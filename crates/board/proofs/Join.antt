@@ -6,12 +6,12 @@ use mathlib.Core.Logic.{_⊎_, inl, inr, ⊎-elim}
 use Prim.Native.Nat.{ℕ, zero, suc}
 use native.Mathlib.Omega.{arith}
 use Rattle.board.proofs.Cells.{at, at-same, at-other, at-all, clash, next, prev, state, spin}
-use Rattle.board.proofs.Views.{View, away, comesW, comesR, waitsW, waitsR}
+use Rattle.board.proofs.Views.{link-node, View, away, comesW, comesR, waitsW, waitsR}
 use Rattle.board.proofs.Views.{holdsW, turnR, activeR, seesR, wakesR, hands}
 use Rattle.board.proofs.Views.{node, link, joined, reader, active, target, hand, granted, Cells}
 use Rattle.board.proofs.Chain.{Spot, End, who, Chain, In, Once, Ok, chain-join, chain-joined, chain-end}
 use Rattle.board.proofs.Chain.{Led, Due, Baton, Line, Seat, Front, seat-place}
-use Rattle.board.proofs.Moves.{joined-link, node-is, cells-frame, seat-frame, front-frame, front-none, nodes-at}
+use Rattle.board.proofs.Moves.{joined-link, cells-frame, seat-frame, front-frame, front-none, nodes-at}
 
 -- who is in a list that is one longer
 in-join : (c d : ℕ) (l : List ℕ) → In c l → In c (l ++ (d ∷ []))
@@ -19,16 +19,19 @@ in-join c d [] i = absurd i
 in-join c d (a ∷ l) (inl e) = inl e
 in-join c d (a ∷ l) (inr i) = inr (in-join c d l i)
 
+-- the last is in
 in-last : (c : ℕ) (l : List ℕ) → In c (l ++ (c ∷ []))
 in-last c [] = inl refl
 in-last c (a ∷ l) = inr (in-last c l)
 
+-- whoever is in a list with one more
 in-split : (c d : ℕ) (l : List ℕ) → In c (l ++ (d ∷ [])) → In c l ⊎ (c ≡ d)
 in-split c d [] (inl e) = inr e
 in-split c d [] (inr i) = absurd i
 in-split c d (a ∷ l) (inl e) = inl (inl e)
 in-split c d (a ∷ l) (inr i) = ⊎-elim (λ j. inl (inr j)) inr (in-split c d l i)
 
+-- one more that was not in
 once-join : (d : ℕ) (l : List ℕ) → Once l → (In d l → ⊥) → Once (l ++ (d ∷ []))
 once-join d [] u n = (λ i. i, tt)
 once-join d (a ∷ l) u n =
@@ -82,7 +85,7 @@ module _ (f g : ℕ → ℕ) (V : ℕ → View) (l : List ℕ) (I : Line f V l) 
   same d j = at-other V c u d (other d j)
 
   my-node : node u ≡ n
-  my-node = node-is u n (J .in-line) (J .keeps)
+  my-node = link-node u n (J .keeps)
 
   -- the tail's node is that of a card in line, with nobody behind
   tail-card : (m : ℕ) → f 0 ≡ suc m → (d : ℕ) × (joined (V d) ≡ true) × (link (V d) ≡ suc m) × (f (next m) ≡ 0)
@@ -96,7 +99,7 @@ module _ (f g : ℕ → ℕ) (V : ℕ → View) (l : List ℕ) (I : Line f V l) 
         o,
         k,
         ⊎-elim (λ z. absurd (omega arith))
-            (λ h. ap (λ (x : ℕ). f (next x)) (sym (node-is (V d) m o k)) ∙ h) (E .last),
+            (λ h. ap (λ (x : ℕ). f (next x)) (sym (link-node (V d) m k)) ∙ h) (E .last),
       )
 
   -- every other card has another node; who is out of line has not the tail's

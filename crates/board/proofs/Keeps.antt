@@ -1,12 +1,11 @@
 -- Every call keeps the invariant, and none is refused by the memory.
 use mathlib.Core.Path.{_≡_, refl, sym, subst, _∙_, ap}
 use mathlib.Core.Bool.{Bool, true, false, cond}
-use mathlib.Core.List.{List, [], _∷_, _++_}
-use mathlib.Core.Logic.{_⊎_, inl, inr, ⊎-elim}
-use Prim.Native.Nat.{ℕ, zero, suc, _+_, _*_, _≤_, _<_}
+use mathlib.Core.List.{List}
+use Prim.Native.Nat.{ℕ, zero, suc, _≤_, _<_}
 use native.Mathlib.Omega.{arith}
-use lib.Dec.{eqb, ltb}
-use lib.ListN.{length, getD, set, replicate}
+use lib.Dec.{ltb}
+use lib.ListN.{length, getD, replicate}
 use Rattle.std.specs.declared.option.Option.{Option}
 use Rattle.std.specs.declared.option.Option.the-variants.{Some, None}
 use Rattle.std.specs.declared.result.Result.{Result}
@@ -14,64 +13,55 @@ use Rattle.std.specs.declared.result.Result.the-variants.{Ok, Err}
 use Rattle.std.proofs.shelf.Tests.{ltb-true}
 use Rattle.memory.specs.declared.fault.MemoryFault.{MemoryFault}
 use Rattle.memory.specs.declared.fault.Refusal.{Refusal}
-use Rattle.memory.specs.declared.fault.Refusal.the-variants.{OutOfRange, Already, NoTransaction, Doomed, Full}
 use Rattle.memory.specs.declared.call.MemoryCall.{MemoryCall}
 use Rattle.memory.specs.declared.call.MemoryCall.the-variants as memory-call
-use Rattle.memory.specs.Meaning.{Meaning, Tx, none, standing, tx-of, cleared}
+use Rattle.memory.specs.Meaning.{Meaning, Tx, none, standing, tx-of}
 use Rattle.memory.specs.Calls.{performed}
 use Rattle.stages.specs.declared.answer.Answer.{Answer}
 use Rattle.stages.specs.declared.answer.Answer.the-variants.{Done}
-use Rattle.stages.specs.declared.layout.Field.the-variants.{Next, Prev, State, Spin}
 use Rattle.stages.specs.declared.stage.Mode.{Mode}
 use Rattle.stages.specs.declared.stage.Mode.the-variants.{Read, Write}
-use Rattle.stages.specs.declared.stage.WriterEntry.the-variants.{W1}
-use Rattle.stages.specs.declared.stage.ReaderEntry.the-variants.{R1}
 use Rattle.stages.specs.declared.stage.Addition.the-variants.{A1}
 use Rattle.stages.specs.declared.stage.WriterExit.the-variants.{X1}
 use Rattle.stages.specs.declared.stage.ReaderExit.the-variants.{Y1}
 use Rattle.stages.specs.declared.stage.Stage.{Stage}
-use Rattle.stages.specs.declared.stage.Stage.the-variants.{Idle, WriterEnters, ReaderEnters, Inside, Adds, WriterLeaves, ReaderLeaves}
+use Rattle.stages.specs.declared.stage.Stage.the-variants.{Idle, WriterEnters, ReaderEnters, Inside, Adds}
+use Rattle.stages.specs.declared.stage.Stage.the-variants.{WriterLeaves, ReaderLeaves}
 use Rattle.stages.specs.Layout.{counter-cell}
 use Rattle.stages.specs.Rows.{call-of, begin-of, in-transaction}
 use Rattle.lock.specs.declared.fault.LockFault.{LockFault}
-use Rattle.lock.specs.declared.fault.LockFault.the-variants.{NoCard, NotAllowed, NoPlace, NotFree, Memory}
+use Rattle.lock.specs.declared.fault.LockFault.the-variants.{NoCard, NotAllowed, NoPlace, NotFree}
 use Rattle.lock.specs.declared.values.NodeValues.{NodeValues}
 use Rattle.lock.specs.Faults as lock
-use Rattle.lock.specs.Lock.{Size, LockState, Turn, stage-of, staged, kept, refuses, of-card, on-free, free, goes, advanced, returns-by}
-use Rattle.lock.specs.Lock.{step-by, stepped, drop-by, abort-by, aborted, stores, entry-stores, first-stage, enter-by, enter-at, entered}
-use Rattle.lock.specs.Lock.{new-lock, idle-card}
-use Rattle.stages.specs.declared.stage.Card.{Card}
-use Rattle.lock.specs.Lock.{inside-by, leave-at, left, add-at, added, count-by, show-at, shown, reuse-stores, reuse-by, reuse-at, reused}
-use Rattle.door.specs.declared.fault.DoorFault.{DoorFault}
-use Rattle.door.specs.declared.fault.DoorFault.the-variants.{Malformed, Differs, Lock}
+use Rattle.lock.specs.Lock.{Size, LockState, Turn, stage-of, staged, kept, refuses, of-card, on-free, free, goes}
+use Rattle.lock.specs.Lock.{advanced, returns-by}
+use Rattle.lock.specs.Lock.{step-by, stepped, drop-by, abort-by, aborted, stores, entry-stores, first-stage, enter-by}
+use Rattle.lock.specs.Lock.{enter-at}
+use Rattle.lock.specs.Lock.{inside-by, leave-at, add-at, count-by, show-at, reuse-stores, reuse-by, reuse-at, reused}
 use Rattle.door.specs.declared.request.Request.{Request}
 use Rattle.door.specs.declared.request.Request.the-variants.{Enter, Leave, Add, Show}
-use Rattle.door.specs.declared.request.Memo.{Memo}
-use Rattle.door.specs.declared.call.Call.{Call}
-use Rattle.door.specs.declared.call.Call.the-variants as call
-use Rattle.door.specs.Faults as door
-use Rattle.door.specs.Door.{DoorState, Reply, no-memo, new-memo, new-door, memo-of, worded, understood, same, told, resent}
-use Rattle.door.specs.Door.{served, noted, judged, asked, passed, called}
-use Rattle.board.specs.Book.{Book, Place, Sum, Deed, plain, deed, deed-by, accepted, lined, summed, step-deed, after, new-book}
-use Rattle.board.specs.Promise.{Within, Never-8}
-use Rattle.board.proofs.Cells.{at, at-same, at-all, clash}
-use Rattle.board.proofs.Views.{View, view, link, joined, reader}
+use Rattle.door.specs.Door.{same}
+use Rattle.door.specs.Door.{served}
+use Rattle.board.specs.Book.{Place, Sum, plain, deed, deed-by, accepted, lined, summed, step-deed}
+use Rattle.board.proofs.Ranges.{Within}
+use Rattle.board.proofs.Cells.{at, at-all, clash}
+use Rattle.board.proofs.Views.{view, link, joined, reader}
 use Rattle.board.proofs.Chain.{Line, In, chain-joined}
-use Rattle.board.proofs.Held.{in-tx, has-written, Isolated, Agrees}
+use Rattle.board.proofs.Held.{in-tx, Isolated}
 use Rattle.board.proofs.Sound.{Sound}
-use Rattle.board.proofs.Model.{Out, out, seen}
-use Rattle.board.proofs.Inv.{cards-of, Seated, Kept, Counted, Inv}
-use Rattle.board.proofs.Bridge.{Ranged, Recorded, Same, bridge, staged-is, staged-length}
+use Rattle.board.proofs.Model.{Out, seen}
+use Rattle.board.proofs.Inv.{cards-of, Seated, Kept, Counted}
+use Rattle.board.proofs.Bridge.{Ranged, Same, bridge, staged-is, staged-length}
 use Rattle.board.proofs.Rows.{row, row-inside, recorded, ranged}
-use Rattle.board.proofs.Isolation.{Fair, step-isolated, step-fair, restaged, load-accepted, store-accepted, drop-accepted}
-use Rattle.board.proofs.Isolation.{load-isolated, store-isolated, drop-isolated, outside}
+use Rattle.board.proofs.Isolation.{Fair, step-isolated, step-fair, restaged, load-accepted, drop-accepted}
+use Rattle.board.proofs.Isolation.{load-isolated, drop-isolated}
 use Rattle.board.proofs.Sounds.{step-sound, begin-sound}
 use Rattle.board.proofs.Counts.{finishing, step-counted, counted-cells, counted-stage, calm-begin, calm-inside}
 use Rattle.board.proofs.Links.{views, view-begin}
 use Rattle.board.proofs.Steps.{step-line}
-use Rattle.board.proofs.Frames.{line-same, line-begin, stored, All-within, stored-other, stored-line, entry-within, reuse-within}
-use Rattle.board.proofs.Frames.{enter-line, reuse-line, free-unheld, new-line}
-use Rattle.board.proofs.Frames as frames
+use Rattle.board.proofs.Frames.{line-same, line-begin, stored, All-within, stored-other, entry-within, reuse-within}
+use Rattle.board.proofs.Frames.{enter-line, reuse-line, free-unheld}
+use Rattle.board.proofs.Stores.{stores-done, within-below}
 use Rattle.board.proofs.Seats.{cards-lined, seated-step, seated-same, seated-other}
 
 -- the invariant of a lock's state with the places l in line and the finished adds q
@@ -101,7 +91,8 @@ safe-by z s l q f t S cl tl sl ef et eS I L A K W C = record {
     txs = tl;
     cards = sl;
     isolated = subst (λ (g : ℕ → ℕ). Isolated g (tx-of (s .meaning)) (stage-of s)) (sym ef)
-        (subst (λ (u : ℕ → Tx). Isolated f u (stage-of s)) (sym et) (subst (λ (T : ℕ → Stage). Isolated f t T) (sym eS) I));
+        (subst (λ (u : ℕ → Tx). Isolated f u (stage-of s)) (sym et)
+        (subst (λ (T : ℕ → Stage). Isolated f t T) (sym eS) I));
     line = subst (λ (g : ℕ → ℕ). Line g (views (stage-of s)) (cards-of l)) (sym ef)
         (subst (λ (T : ℕ → Stage). Line f (views T) (cards-of l)) (sym eS) L);
     absent = subst (λ (T : ℕ → Stage). (c : ℕ) → z .cards ≤ c → T c ≡ Idle) (sym eS) A;
@@ -126,50 +117,6 @@ goes-fine (ReaderLeaves n at) v = tt
 advanced-fine : (g : Stage) (r : Result ℕ MemoryFault) → Fair r → Fine (advanced g r .1)
 advanced-fine g (Ok v) h = goes-fine g v
 advanced-fine g (Err e) h = subst (λ (x : Refusal). Fine (returns-by g e x .1)) (sym h) tt
-
--- stores to cells that there are
-abbrev Cells-below : List (ℕ × ℕ) → Type 0
-Cells-below [] = Unit {0}
-Cells-below (w ∷ ws) = (w .0 < 137) × Cells-below ws
-
--- stores into one of at most 32 nodes are
-within-below : (n : ℕ) (ws : List (ℕ × ℕ)) → n < 32 → All-within n ws → Cells-below ws
-within-below n [] lt h = tt
-within-below n (w ∷ ws) lt h = let x = h .0 .1 in (omega arith, within-below n ws lt (h .1))
-
--- what stores of a card outside of a transaction leave: they are all accepted
-record Left (c : ℕ) (S : ℕ → Stage) (ws : List (ℕ × ℕ)) (m n : Meaning) : Type 0 where
-  pub done : stores c ws m ≡ (Ok tt, n)
-  pub cells : length (n .cells) ≡ 137
-  pub txs : length (n .txs) ≡ 8
-  pub stands : standing n ≡ stored ws (standing m)
-  pub isolated : Isolated (standing n) (tx-of n) S
-
-stores-left : (c : ℕ) (S : ℕ → Stage) → c < 8 → in-tx (S c) ≡ false → (ws : List (ℕ × ℕ)) → Cells-below ws
-    → (m : Meaning) → length (m .cells) ≡ 137 → length (m .txs) ≡ 8 → Isolated (standing m) (tx-of m) S
-    → (n : Meaning) × Left c S ws m n
-stores-left c S lt o [] b m cl tl I = (m, record { done = refl; cells = cl; txs = tl; stands = refl; isolated = I })
-stores-left c S lt o (w ∷ ws) b m cl tl I =
-    let k = memory-call.Store c (w .0) (w .1) in
-    let none-is = outside (standing m) (S c) (tx-of m c) o (I .agrees c) in
-    let B = bridge m cl tl c lt k (refl, b .0) (subst Recorded (sym none-is) tt) in
-    let E = store-accepted (standing m) (tx-of m) S I c (w .0) (w .1) o in
-    let D = performed m k .after in
-    let J : Isolated (standing D) (tx-of D) S =
-    subst (λ (f : ℕ → ℕ). Isolated f (tx-of D) S) (sym (B .cell))
-    (subst (λ (t : ℕ → Tx). Isolated (seen c k (standing m) (tx-of m) .cell) t S) (sym (B .tx))
-    (store-isolated (standing m) (tx-of m) S I c (w .0) (w .1) o)) in
-    let R = stores-left c S lt o ws (b .1) D (B .cells) (B .txs) J in
-    let a : performed m k .answer ≡ Ok 0 = B .answer ∙ ap (λ (o : Out). o .answer) E in (
-      R .0,
-      record {
-        done = rw (a, stores) (R .1 .done);
-        cells = R .1 .cells;
-        txs = R .1 .txs;
-        stands = R .1 .stands ∙ ap (stored ws) (B .cell ∙ ap (λ (o : Out). o .cell) E);
-        isolated = R .1 .isolated;
-      },
-    )
 
 -- a lock's state that is safe, on sizes within the ranges, and a card c that there is
 module _ (z : Size) (W : Within z) (s : LockState) (l : List Place) (q : List Sum) (h : Safe z s l q)
@@ -217,8 +164,10 @@ module _ (z : Size) (W : Within z) (s : LockState) (l : List Place) (q : List Su
             (lined c (cond (accepted (P .answer)) (deed (S c)) plain) l)
             (summed c (cond (accepted (P .answer)) (deed (S c)) plain) q)
             (P .cell) (P .tx) (at S c (advanced (S c) (P .answer) .0))
-            (B .cells) (B .txs) (staged-length s (performed m k .after) c (advanced (S c) (P .answer) .0) (h .kept .cards))
-            (B .cell) (B .tx) (staged-is s (performed m k .after) c (advanced (S c) (P .answer) .0) (h .kept .cards) low)
+            (B .cells) (B .txs) (staged-length s (performed m k .after) c (advanced (S c) (P .answer) .0)
+            (h .kept .cards))
+            (B .cell) (B .tx) (staged-is s (performed m k .after) c (advanced (S c) (P .answer) .0)
+            (h .kept .cards) low)
             (step-isolated N K (standing m) (tx-of m) S (h .kept .isolated) c (h .kept .sound c) k e)
             (subst (Line (P .cell) (views (at S c (advanced (S c) (P .answer) .0))))
             (sym (cards-lined c (cond (accepted (P .answer)) (deed (S c)) plain) l))
@@ -255,7 +204,8 @@ module _ (z : Size) (W : Within z) (s : LockState) (l : List Place) (q : List Su
       let E = drop-accepted (standing m) (tx-of m) S (h .kept .isolated) c i in
       let D = performed m (memory-call.Drop c) .after in
       let g = begin-of (S c) in
-      subst (λ (r : Result ℕ MemoryFault). Good z (drop-by s c r D) l q) (sym (B .answer ∙ ap (λ (o : Out). o .answer) E)) (
+      subst (λ (r : Result ℕ MemoryFault). Good z (drop-by s c r D) l q)
+      (sym (B .answer ∙ ap (λ (o : Out). o .answer) E)) (
         safe-by z (staged s D c g) l q (P .cell) (P .tx) (at S c g)
             (B .cells) (B .txs) (staged-length s D c g (h .kept .cards)) (B .cell) (B .tx)
             (staged-is s D c g (h .kept .cards) low)
@@ -274,7 +224,8 @@ module _ (z : Size) (W : Within z) (s : LockState) (l : List Place) (q : List Su
   abort-good (Some k) e = go (in-transaction k) (row-inside c (S c) k (row N K c (S c) (h .kept .sound c) k e))
     where
       go : (b : Bool) → b ≡ in-tx (S c)
-          → Good z (cond b (drop-by s c (performed m (memory-call.Drop c) .answer) (performed m (memory-call.Drop c) .after))
+          → Good z (cond b (drop-by s c (performed m (memory-call.Drop c) .answer)
+          (performed m (memory-call.Drop c) .after))
           (refuses s NotAllowed)) l q
       go true x = drop-good (sym x)
       go false x = (h, λ y. omega arith)
@@ -287,7 +238,8 @@ module _ (z : Size) (W : Within z) (s : LockState) (l : List Place) (q : List Su
       let B = sees (memory-call.Load c a) (refl, lt) in
       let E = load-accepted (standing m) (tx-of m) S (h .kept .isolated) c a o in
       let D = performed m (memory-call.Load c a) .after in
-      subst (λ (r : Result ℕ MemoryFault). Good z (count-by s r D) l q) (sym (B .answer ∙ ap (λ (o : Out). o .answer) E)) (
+      subst (λ (r : Result ℕ MemoryFault). Good z (count-by s r D) l q)
+      (sym (B .answer ∙ ap (λ (o : Out). o .answer) E)) (
         safe-by z (kept s D) l q (P .cell) (P .tx) S (B .cells) (B .txs) (h .kept .cards) (B .cell) (B .tx) refl
             (load-isolated (standing m) (tx-of m) S (h .kept .isolated) c a o)
             (subst (λ (f : ℕ → ℕ). Line f (views S) (cards-of l)) (sym (ap (λ (o : Out). o .cell) E)) (h .kept .line))
@@ -309,7 +261,8 @@ module _ (z : Size) (W : Within z) (s : LockState) (l : List Place) (q : List Su
 
     not-in-line : In c (cards-of l) → ⊥
     not-in-line i = clash (joined (view (S c)))
-        (chain-joined (standing m) (views S) (cards-of l) 0 (h .kept .line .chain) c i) (ap (λ (x : Stage). joined (view x)) idle)
+        (chain-joined (standing m) (views S) (cards-of l) 0 (h .kept .line .chain) c i)
+        (ap (λ (x : Stage). joined (view x)) idle)
 
     first-sound : (n : ℕ) (o : Mode) → n < N → Sound N K (first-stage n o)
     first-sound n Read lt = lt
@@ -328,7 +281,7 @@ module _ (z : Size) (W : Within z) (s : LockState) (l : List Place) (q : List Su
         → Good z (enter-by s c (first-stage n o) (stores c (entry-stores n o) m)) l q
     enter-good o n lt fr =
         let u = free-unheld s n fr in
-        let R = stores-left c S low idle-outside (entry-stores n o)
+        let R = stores-done c S low idle-outside (entry-stores n o)
         (within-below n (entry-stores n o) (let w = W .nodes in omega arith) (entry-within n o))
         m (h .kept .cells) (h .kept .txs) (h .kept .isolated) in
         let D = R .0 in
@@ -351,7 +304,7 @@ module _ (z : Size) (W : Within z) (s : LockState) (l : List Place) (q : List Su
         → Good z (reuse-by s (stores c (reuse-stores n v) m)) l q
     reuse-good n v lt fr =
         let u = free-unheld s n fr in
-        let R = stores-left c S low idle-outside (reuse-stores n v)
+        let R = stores-done c S low idle-outside (reuse-stores n v)
         (within-below n (reuse-stores n v) (let w = W .nodes in omega arith) (reuse-within n v))
         m (h .kept .cells) (h .kept .txs) (h .kept .isolated) in
         let D = R .0 in
@@ -449,7 +402,11 @@ module _ (z : Size) (W : Within z) (s : LockState) (l : List Place) (q : List Su
   add-good : (k a n : ℕ) (o : Mode) → S c ≡ Inside n o → Good z (add-at z s c k a n o) l q
   add-good k a n Read e = not-allowed
   add-good k a n Write e = on-counter-good k (Ok Done, staged s m c (Adds n (A1 k a)))
-      (λ lt. (restage-safe (Adds n (A1 k a)) (inside-out n Write e) refl (sym (ap view e)) (inside-node n Write e, lt) refl, tt))
+      (λ lt. (
+        restage-safe (Adds n (A1 k a)) (inside-out n Write e) refl (sym (ap view e))
+            (inside-node n Write e, lt) refl,
+        tt,
+      ))
 
   show-good : (k n : ℕ) (o : Mode) → S c ≡ Inside n o → Good z (show-at z s c k n o) l q
   show-good k n o e =
@@ -463,7 +420,8 @@ module _ (z : Size) (W : Within z) (s : LockState) (l : List Place) (q : List Su
   served-good Leave = of-card-good (inside-by s (leave-at s c) (S c)) (inside-good (leave-at s c) leave-good (S c) refl)
   served-good (Add k a) = of-card-good (inside-by s (add-at z s c k a) (S c))
       (inside-good (add-at z s c k a) (add-good k a) (S c) refl)
-  served-good (Show k) = of-card-good (inside-by s (show-at z s c k) (S c)) (inside-good (show-at z s c k) (show-good k) (S c) refl)
+  served-good (Show k) = of-card-good (inside-by s (show-at z s c k) (S c))
+      (inside-good (show-at z s c k) (show-good k) (S c) refl)
 
 -- a list of the same everywhere
 all-same : {A : Type 0} (n i : ℕ) (a : A) → getD (replicate n a) i a ≡ a
@@ -497,7 +455,8 @@ module _ (z : Size) (W : Within z) where
       go true e = step-good z W s l q h c (ltb-true c (z .cards) e) (call-of (z .nodes) c (stage-of s c)) refl
       go false e = (h, λ x. omega arith)
 
-  pub abort-keeps : (s : LockState) (l : List Place) (q : List Sum) → Safe z s l q → (c : ℕ) → Good z (aborted z s c) l q
+  pub abort-keeps : (s : LockState) (l : List Place) (q : List Sum) → Safe z s l q → (c : ℕ)
+      → Good z (aborted z s c) l q
   abort-keeps s l q h c = of-card-keeps s l q h c (abort-by s c (call-of (z .nodes) c (stage-of s c)))
       (λ lt. abort-good z W s l q h c lt (call-of (z .nodes) c (stage-of s c)) refl)
 

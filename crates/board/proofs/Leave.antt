@@ -1,20 +1,19 @@
 -- A card leaves the line.
 use mathlib.Core.Path.{_≡_, refl, sym, subst, _∙_, ap}
-use mathlib.Core.Bool.{Bool, true, false, cond}
+use mathlib.Core.Bool.{true, false}
 use mathlib.Core.List.{List, [], _∷_}
 use mathlib.Core.Logic.{_⊎_, inl, inr, ⊎-elim}
 use Prim.Native.Nat.{ℕ, zero, suc}
 use native.Mathlib.Omega.{arith}
-use lib.Dec.{eqb}
 use Rattle.std.proofs.shelf.Tests.{cases-eq, eq-eqb, ne-eqb}
 use Rattle.board.proofs.Cells.{at, at-same, at-other, at-all, clash, next, prev, state, spin}
-use Rattle.board.proofs.Views.{View, away, comesW, comesR, waitsW, waitsR}
+use Rattle.board.proofs.Views.{link-node, View, away, comesW, comesR, waitsW, waitsR}
 use Rattle.board.proofs.Views.{holdsW, turnR, activeR, seesR, wakesR, hands}
 use Rattle.board.proofs.Views.{node, link, joined, reader, active, target, hand, granted, Cells}
 use Rattle.board.proofs.Chain.{without, Spot, End, who, Chain, In, Once, Ok, granted-frame, chain-behind, chain-place}
 use Rattle.board.proofs.Chain.{chain-pred, chain-leave, Led, Due, Baton, Line, Front, seat-place, front-end}
 use Rattle.board.proofs.Lists.{without-once}
-use Rattle.board.proofs.Moves.{joined-link, node-is, holder, cells-frame}
+use Rattle.board.proofs.Moves.{joined-link, holder, cells-frame}
 use Rattle.board.proofs.Moves.{seat-frame, front-frame, front-none, nodes-at}
 
 -- who is in a list without one of its cards
@@ -74,7 +73,7 @@ module _ (f g : ℕ → ℕ) (V : ℕ → View) (l : List ℕ) (I : Line f V l) 
     (Q : Leaving f g (V c) n b q u) (ahd : (p : ℕ) → Spot f (who V p) (V c) → link (who V p) ≡ b)
     (after : Handover f V (V c) b q u) where
   my-next : f (next (node (V c))) ≡ q
-  my-next = ap (λ (x : ℕ). f (next x)) (node-is (V c) n (Q .in-line) (Q .has)) ∙ Q .names
+  my-next = ap (λ (x : ℕ). f (next x)) (link-node (V c) n (Q .has)) ∙ Q .names
 
   -- the link behind is that of the card right behind, or 0 at the end
   next-link : (d : ℕ) → Spot f (V c) (V d) → q ≡ link (V d)
@@ -103,7 +102,7 @@ module _ (f g : ℕ → ℕ) (V : ℕ → View) (l : List ℕ) (I : Line f V l) 
         o,
         k,
         ⊎-elim (λ z. absurd (omega arith))
-            (λ h. ap (λ (y : ℕ). f (next y)) (sym (node-is (V x) m o k)) ∙ h ∙ Q .has) (P .from),
+            (λ h. ap (λ (y : ℕ). f (next y)) (sym (link-node (V x) m k)) ∙ h ∙ Q .has) (P .from),
       )
 
   k-spin : (k : ℕ) → g (spin k) ≡ f (spin k)

@@ -28,6 +28,7 @@ use Rattle.board.proofs.Inv.{reads-mode}
 abbrev pub views : (ℕ → Stage) → ℕ → View
 views S d = view (S d)
 
+-- both ways of a test
 view-cond : (b : Bool) (x y : Stage) → view (cond b x y) ≡ cond b (view x) (view y)
 view-cond true x y = refl
 view-cond false x y = refl
@@ -172,15 +173,18 @@ Seat-after (joins n m) s r =
 Seat-after parts s r = Unit {0}
 Seat-after (finishes k a) s r = Same-seat s r
 
+-- a look at the successor keeps the seat
 seat-look : {A : Type 0} (b : Bool) (s : Stage) (x y : Stage × A)
     → Same-seat s (x .0) → Same-seat s (y .0) → Same-seat s ((cond b x y) .0)
 seat-look true s x y p q = p
 seat-look false s x y p q = q
 
+-- a joining takes a seat
 seat-join : (b : Bool) (n : ℕ) → let r = view (ReaderEnters n (cond b R9 R8)) in (link r ≡ suc n) × (reader r ≡ true)
 seat-join true n = (refl, refl)
 seat-join false n = (refl, refl)
 
+-- a row that was accepted
 pub seat-goes : (s : Stage) (v : ℕ) → Seat-after (deed s) s (goes s v .0)
 seat-goes Idle v = λ j. clash false j refl
 seat-goes (WriterEnters n W1) v = λ j. clash false j refl

@@ -10,7 +10,8 @@ use Rattle.std.proofs.shelf.Ways.{tells}
 use Rattle.std.proofs.shelf.Tests.{cases-eq}
 use Rattle.board.proofs.Cells.{at, next, prev, state, spin}
 use Rattle.board.proofs.Cells.{at-same, at-other, at-all, clash}
-use Rattle.board.proofs.Views.{View, away, comesW, comesR, waitsW, waitsR, holdsW, turnR, activeR, seesR, wakesR}
+use Rattle.board.proofs.Views.{link-node, View, away, comesW, comesR, waitsW, waitsR, holdsW, turnR, activeR, seesR}
+use Rattle.board.proofs.Views.{wakesR}
 use Rattle.board.proofs.Views.{hands, node, link, joined, reader, active, target, waking, hand, granted, Cells}
 use Rattle.board.proofs.Chain.{Spot, End, who, Chain, In, Once, Ok, granted-frame, chain-map, chain-behind}
 use Rattle.board.proofs.Chain.{Led, Due, Baton, Nodes, Line, Seat, Front, seat-place, front-end}
@@ -305,10 +306,6 @@ aimed f p v m P e = go (P .aim)
     go (inl z) = absurd (omega arith)
     go (inr h) = (sym (h .0) ∙ e, h .1, h .2)
 
--- the node of a card in line, by its link
-pub node-is : (v : View) (m : ℕ) → joined v ≡ true → link v ≡ suc m → node v ≡ m
-node-is v m j e = let q = joined-link v j in omega arith
-
 -- the one behind is a reader that waits: it will be woken
 see-wakes : (f : ℕ → ℕ) (v : View) (n m : ℕ) → Cells f v → f (state m) ≡ 1 → Spot f (seesR n (suc m)) v
     → Spot f (wakesR n (suc m)) v
@@ -323,7 +320,7 @@ see-wakes f v n m k e P = let A = aimed f (seesR n (suc m)) v m P refl in record
     sym (A .0),
     A .1,
     λ _. waits-reader f v (P .in-line) (A .1) k .1
-        (ap (λ (x : ℕ). f (state x)) (node-is v m (P .in-line) (A .0)) ∙ e),
+        (ap (λ (x : ℕ). f (state x)) (link-node v m (A .0)) ∙ e),
   );
 }
 
@@ -338,7 +335,7 @@ see-in f v n m k e P = let A = aimed f (seesR n (suc m)) v m P refl in record {
   turnr = P .turnr;
   aim = inl refl;
   owed = λ _ r g. absurd (e
-      (ap (λ (x : ℕ). f (state x)) (sym (node-is v m (P .in-line) (A .0)))
+      (ap (λ (x : ℕ). f (state x)) (sym (link-node v m (A .0)))
       ∙ waits-reader f v (P .in-line) (A .1) k .0 r));
 }
 

@@ -250,6 +250,7 @@ abbrev RangedOf : ℕ → Option MemoryCall → Type 0
 RangedOf c None = Unit {0}
 RangedOf c (Some k) = Ranged c k
 
+-- by the call, if there is one
 ranged-of : (N K c : ℕ) (s : Stage) → N ≤ 32 → K ≤ 8 → Sound N K s → RangedOf c (call-of N c s)
 ranged-of N K c Idle a b h = tt
 ranged-of N K c (WriterEnters n W1) a b h = refl

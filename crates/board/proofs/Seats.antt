@@ -28,6 +28,7 @@ cards-join : (l : List Place) (p : Place) → cards-of (l ++ p ∷ []) ≡ cards
 cards-join [] p = refl
 cards-join (q ∷ l) p = ap (λ (k : List ℕ). q .card ∷ k) (cards-join l p)
 
+-- the cards of a line without a place
 cards-without : (c : ℕ) (l : List Place) → cards-of (without c l) ≡ chain.without c (cards-of l)
 cards-without c [] = refl
 cards-without c (p ∷ l) = go (eqb (p .card) c) (cards-without c l)
@@ -70,6 +71,7 @@ seated-join : (S : ℕ → Stage) (p : Place) (l : List Place) → link (view (S
 seated-join S p [] e r h = (e, r, tt)
 seated-join S p (q ∷ l) e r h = (h .0, h .1, seated-join S p l e r (h .2))
 
+-- the others keep their seats
 seated-without : (S : ℕ → Stage) (c : ℕ) (l : List Place) → Seated S l → Seated S (without c l)
 seated-without S c [] h = tt
 seated-without S c (p ∷ l) h = go (eqb (p .card) c) (seated-without S c l (h .2))

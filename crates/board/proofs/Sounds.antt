@@ -1,7 +1,7 @@
 -- Every step keeps the stages sound: a link that is read is at that moment the link of a card in line, or 0.
 use mathlib.Core.Path.{_≡_, refl, sym, subst}
 use mathlib.Core.Bool.{Bool, true, false, cond}
-use mathlib.Core.List.{List, []}
+use mathlib.Core.List.{List}
 use mathlib.Core.Logic.{⊎-elim}
 use Prim.Native.Nat.{ℕ, zero, suc, _≤_, _<_}
 use native.Mathlib.Omega.{arith}
@@ -30,6 +30,7 @@ use Rattle.stages.specs.declared.stage.Stage.the-variants.{WriterLeaves, Reader
 use Rattle.stages.specs.Layout.{reader, writer, active}
 use Rattle.stages.specs.Rows.{call-of, begin-of}
 use Rattle.lock.specs.Lock.{goes, returns-by, advanced}
+use Rattle.board.proofs.Links.{sound-link}
 use Rattle.board.proofs.Cells.{next, prev, clash}
 use Rattle.board.proofs.Views.{view, node, link, joined}
 use Rattle.board.proofs.Views as views
@@ -38,47 +39,6 @@ use Rattle.board.proofs.Held.{in-tx, Agrees}
 use Rattle.board.proofs.Sound.{Named, Sound}
 use Rattle.board.proofs.Model.{seen, value-seen, read-seen}
 use Rattle.board.proofs.Rows.{Row, row, one-call}
-
--- the link of a card's node is one of a node that there is, or 0
-pub link-sound : (N K : ℕ) (s : Stage) → Sound N K s → link (view s) ≤ N
-link-sound N K Idle h = omega arith
-link-sound N K (WriterEnters n W1) h = omega arith
-link-sound N K (WriterEnters n W2) h = omega arith
-link-sound N K (WriterEnters n (W3 p)) h = let i = h .0 in omega arith
-link-sound N K (WriterEnters n (W4 p)) h = let i = h .0 in omega arith
-link-sound N K (WriterEnters n (W5 p)) h = let i = h .0 in omega arith
-link-sound N K (WriterEnters n W6) h = omega arith
-link-sound N K (ReaderEnters n R1) h = omega arith
-link-sound N K (ReaderEnters n R2) h = omega arith
-link-sound N K (ReaderEnters n (R3 p)) h = let i = h .0 in omega arith
-link-sound N K (ReaderEnters n (R4 p)) h = let i = h .0 in omega arith
-link-sound N K (ReaderEnters n (R5 p)) h = let i = h .0 in omega arith
-link-sound N K (ReaderEnters n (R6 p)) h = let i = h .0 in omega arith
-link-sound N K (ReaderEnters n (R7 p s)) h = let i = h .0 in omega arith
-link-sound N K (ReaderEnters n R8) h = omega arith
-link-sound N K (ReaderEnters n R9) h = omega arith
-link-sound N K (ReaderEnters n R10) h = omega arith
-link-sound N K (ReaderEnters n R11) h = omega arith
-link-sound N K (ReaderEnters n (R12 q)) h = let i = h .0 in omega arith
-link-sound N K (ReaderEnters n (R13 q)) h = let i = h .0 in omega arith
-link-sound N K (ReaderEnters n (R14 q)) h = let i = h .0 in omega arith
-link-sound N K (Inside n mode.Write) h = omega arith
-link-sound N K (Inside n mode.Read) h = omega arith
-link-sound N K (WriterLeaves n X1) h = omega arith
-link-sound N K (WriterLeaves n X2) h = omega arith
-link-sound N K (WriterLeaves n (X3 q)) h = let i = h .0 in omega arith
-link-sound N K (WriterLeaves n (X4 q)) h = let i = h .0 in omega arith
-link-sound N K (WriterLeaves n (X5 q)) h = let i = h .0 in omega arith
-link-sound N K (ReaderLeaves n Y1) h = omega arith
-link-sound N K (ReaderLeaves n Y2) h = omega arith
-link-sound N K (ReaderLeaves n (Y3 p)) h = let i = h .0 in omega arith
-link-sound N K (ReaderLeaves n (Y4 p q)) h = let i = h .0 in omega arith
-link-sound N K (ReaderLeaves n (Y5 p q)) h = let i = h .0 in omega arith
-link-sound N K (ReaderLeaves n (Y6 p q)) h = let i = h .0 in omega arith
-link-sound N K (ReaderLeaves n (Y7 p q s)) h = let i = h .0 in omega arith
-link-sound N K (ReaderLeaves n (Y8 q)) h = let i = h .0 in omega arith
-link-sound N K (Adds n (A1 k x)) h = let i = h .0 in omega arith
-link-sound N K (Adds n (A2 k x v)) h = let i = h .0 in omega arith
 
 -- the begin of a stage's transaction
 pub begin-sound : (N K : ℕ) (s : Stage) → Sound N K s → Sound N K (begin-of s)
@@ -162,7 +122,7 @@ module _ (N K : ℕ) (f : ℕ → ℕ) (S : ℕ → Stage) (l : List ℕ) (L : L
   -- the link of the card ahead is one of a node that there is, or 0
   who-link : (p : ℕ) → link (who (λ d. view (S d)) p) ≤ N
   who-link zero = omega arith
-  who-link (suc d) = link-sound N K (S d) (sound d)
+  who-link (suc d) = sound-link N K (S d) (sound d)
 
   -- so is the tail
   tail-in : f 0 ≤ N
@@ -174,7 +134,7 @@ module _ (N K : ℕ) (f : ℕ → ℕ) (S : ℕ → Stage) (l : List ℕ) (L : L
   next-in : joined (view (S c)) ≡ true → (link (view (S c)) ≡ 0 → ⊥) → f (next (node (view (S c)))) ≤ N
   next-in j n = ⊎-elim
       (λ E. ⊎-elim (λ z. absurd (n z)) (λ z. omega arith) (E .last))
-      (λ w. let b = link-sound N K (S (w .0)) (sound (w .0)) in
+      (λ w. let b = sound-link N K (S (w .0)) (sound (w .0)) in
       ⊎-elim (λ z. absurd (n z)) (λ z. omega arith) (w .2 .from))
       (chain-behind f (λ d. view (S d)) l 0 (L .chain) c (L .members c j))
 

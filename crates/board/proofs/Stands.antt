@@ -17,7 +17,8 @@ use Rattle.board.specs.Book.{Book, Place}
 use Rattle.board.specs.Promise as promise
 use Rattle.board.specs.Promise.{cells-of, Line-stands, Inside-stands}
 use Rattle.board.proofs.Cells.{clash, next, prev, state}
-use Rattle.board.proofs.Views.{View, away, comesW, comesR, waitsW, waitsR, holdsW, turnR, activeR, seesR, wakesR}
+use Rattle.board.proofs.Views.{link-node, View, away, comesW, comesR, waitsW, waitsR, holdsW, turnR, activeR, seesR}
+use Rattle.board.proofs.Views.{wakesR}
 use Rattle.board.proofs.Views.{hands}
 use Rattle.board.proofs.Views.{view, node, link, joined, reader, active, granted}
 use Rattle.board.proofs.Chain.{Spot, End, Chain, In, Once, chain-pred}
@@ -26,20 +27,6 @@ use Rattle.board.proofs.Moves.{joined-link}
 use Rattle.board.proofs.Join.{active-state}
 
 -- Of one view.
-
--- the node that a link names
-pub link-node : (v : View) (m : ℕ) → link v ≡ suc m → node v ≡ m
-link-node away m e = absurd (omega arith)
-link-node (comesW n) m e = omega arith
-link-node (comesR n) m e = omega arith
-link-node (waitsW n) m e = omega arith
-link-node (waitsR n) m e = omega arith
-link-node (holdsW n) m e = omega arith
-link-node (turnR n) m e = omega arith
-link-node (activeR n) m e = omega arith
-link-node (seesR n q) m e = omega arith
-link-node (wakesR n q) m e = omega arith
-link-node (hands n q) m e = omega arith
 
 -- an active reader is a reader, and it is let in
 pub active-is : (f : ℕ → ℕ) (v : View) → active v ≡ true → (reader v ≡ true) × (granted f v ≡ true)

@@ -98,21 +98,25 @@ Soft (call.Write c a v) = Unit {0}
 Soft (call.Commit c) = ⊥
 Soft (call.Drop c) = Unit {0}
 
+-- a read that marks changes no cell
 soft-mark : (c a : ℕ) (f : ℕ → ℕ) (t : ℕ → Tx) (w : List Write) (o : Option (List ℕ))
     → mark-seen c a f t w o .cell ≡ f
 soft-mark c a f t w (Some r) = refl
 soft-mark c a f t w None = refl
 
+-- a read changes no cell
 soft-value : (c a : ℕ) (f : ℕ → ℕ) (t : ℕ → Tx) (r : List ℕ) (w : List Write) (o : Option ℕ)
     → value-seen c a f t r w o .cell ≡ f
 soft-value c a f t r w (Some v) = refl
 soft-value c a f t r w None = soft-mark c a f t w (marking r a)
 
+-- a write changes no standing cell
 soft-record : (c a : ℕ) (f : ℕ → ℕ) (t : ℕ → Tx) (r : List ℕ) (o : Option (List Write))
     → record-seen c a f t r o .cell ≡ f
 soft-record c a f t r (Some w) = refl
 soft-record c a f t r None = refl
 
+-- so does each call but a store and a commit
 pub soft-cell : (k : MemoryCall) (f : ℕ → ℕ) (t : ℕ → Tx) (x : Tx) → Soft k → seen-on k f t x .cell ≡ f
 soft-cell call.Clear f t x h = absurd h
 soft-cell (call.Look a) f t x h = refl

@@ -1,22 +1,20 @@
--- Stores in turn by a card without a transaction: all are accepted, and all stand.
+-- Stores in turn by a card outside of a transaction: all are accepted, and all stand.
 use mathlib.Core.Path.{_≡_, refl, sym, subst, _∙_, ap}
+use mathlib.Core.Bool.{false}
 use mathlib.Core.List.{List, [], _∷_}
 use Prim.Native.Nat.{ℕ, _<_}
 use native.Mathlib.Omega.{arith}
 use lib.ListN.{length}
-use Rattle.std.specs.declared.result.Result.{Result}
-use Rattle.std.specs.declared.result.Result.the-variants.{Ok, Err}
-use Rattle.memory.specs.declared.access.Access.the-variants.{Writes}
-use Rattle.memory.specs.declared.fault.MemoryFault.{MemoryFault}
+use Rattle.std.specs.declared.result.Result.the-variants.{Ok}
 use Rattle.memory.specs.declared.call.MemoryCall.the-variants as memory-call
-use Rattle.memory.specs.Meaning.{Meaning, Tx, none, standing, tx-of, struck}
+use Rattle.memory.specs.Meaning.{Meaning, Tx, standing, tx-of}
 use Rattle.memory.specs.Calls.{performed}
-use Rattle.lock.specs.declared.fault.LockFault.{LockFault}
-use Rattle.lock.specs.declared.fault.LockFault.the-variants.{Memory}
+use Rattle.stages.specs.declared.stage.Stage.{Stage}
 use Rattle.lock.specs.Lock.{stores}
-use Rattle.board.proofs.Cells.{at-same}
-use Rattle.board.proofs.Model.{seen-on}
-use Rattle.board.proofs.Bridge.{Same, Recorded, bridge}
+use Rattle.board.proofs.Held.{in-tx, Isolated}
+use Rattle.board.proofs.Model.{Out, seen}
+use Rattle.board.proofs.Bridge.{Recorded, bridge}
+use Rattle.board.proofs.Isolation.{outside, store-accepted, store-isolated}
 use Rattle.board.proofs.Frames.{stored, All-within}
 
 -- the stores go to cells that there are
@@ -29,33 +27,37 @@ pub within-below : (n : ℕ) (ws : List (ℕ × ℕ)) → n < 32 → All-within 
 within-below n [] lt h = tt
 within-below n (w ∷ ws) lt h = let k = h .0 .1 in (omega arith, within-below n ws lt (h .1))
 
--- one store
-pub store-seen-alone : (m : Meaning) (c a v : ℕ) → length (m .cells) ≡ 137 → length (m .txs) ≡ 8 → c < 8 → a < 137
-    → tx-of m c ≡ none
-    → Same (performed m (memory-call.Store c a v)) (seen-on (memory-call.Store c a v) (standing m) (tx-of m) none)
-store-seen-alone m c a v hc ht lc la e =
-    subst (λ (x : Tx).
-    Same (performed m (memory-call.Store c a v)) (seen-on (memory-call.Store c a v) (standing m) (tx-of m) x)) e
-    (bridge m hc ht c lc (memory-call.Store c a v) (refl, la) (subst Recorded (sym e) tt))
+-- what stores in turn leave: all are accepted, their values stand, the lengths are kept, and transactions are isolated
+pub record Stored (c : ℕ) (S : ℕ → Stage) (ws : List (ℕ × ℕ)) (m n : Meaning) : Type 0 where
+  pub done : stores c ws m ≡ (Ok tt, n)
+  pub cells : length (n .cells) ≡ 137
+  pub txs : length (n .txs) ≡ 8
+  pub stands : standing n ≡ stored ws (standing m)
+  pub isolated : Isolated (standing n) (tx-of n) S
 
--- what they leave: all are accepted, their values stand, the card still has no transaction, the lengths are kept
-pub record Stored (c : ℕ) (ws : List (ℕ × ℕ)) (m : Meaning) (r : Result (Unit {0}) LockFault × Meaning) : Type 0 where
-  pub answer : r .0 ≡ Ok tt
-  pub cell : standing (r .1) ≡ stored ws (standing m)
-  pub tx : tx-of (r .1) c ≡ none
-  pub cells : length (r .1 .cells) ≡ 137
-  pub txs : length (r .1 .txs) ≡ 8
-
--- stores in turn leave that
-pub stores-done : (c : ℕ) (ws : List (ℕ × ℕ)) (m : Meaning) → length (m .cells) ≡ 137 → length (m .txs) ≡ 8 → c < 8
-    → tx-of m c ≡ none → All-below ws → Stored c ws m (stores c ws m)
-stores-done c [] m hc ht lc e h = record { answer = refl; cell = refl; tx = e; cells = hc; txs = ht }
-stores-done c (w ∷ ws) m hc ht lc e h =
-    let S = store-seen-alone m c (w .0) (w .1) hc ht lc (h .0) e in
-    let next = performed m (memory-call.Store c (w .0) (w .1)) .after in
-    let D = stores-done c ws next (S .cells) (S .txs) lc
-    (ap (λ (t : ℕ → Tx). t c) (S .tx) ∙ at-same (λ d. struck Writes (w .0) (tx-of m d)) c none) (h .1) in
-    subst (λ (r : Result ℕ MemoryFault). Stored c (w ∷ ws) m
-    (elim r [ Ok v ↦ stores c ws next | Err f ↦ (Err (Memory f), next) ])) (sym (S .answer))
-    (record
-    { answer = D .answer; cell = D .cell ∙ ap (stored ws) (S .cell); tx = D .tx; cells = D .cells; txs = D .txs })
+-- stores of a card outside of a transaction leave that
+pub stores-done : (c : ℕ) (S : ℕ → Stage) → c < 8 → in-tx (S c) ≡ false → (ws : List (ℕ × ℕ)) → All-below ws
+    → (m : Meaning) → length (m .cells) ≡ 137 → length (m .txs) ≡ 8 → Isolated (standing m) (tx-of m) S
+    → (n : Meaning) × Stored c S ws m n
+stores-done c S lt o [] b m cl tl I = (m, record { done = refl; cells = cl; txs = tl; stands = refl; isolated = I })
+stores-done c S lt o (w ∷ ws) b m cl tl I =
+    let k = memory-call.Store c (w .0) (w .1) in
+    let none-is = outside (standing m) (S c) (tx-of m c) o (I .agrees c) in
+    let B = bridge m cl tl c lt k (refl, b .0) (subst Recorded (sym none-is) tt) in
+    let E = store-accepted (standing m) (tx-of m) S I c (w .0) (w .1) o in
+    let D = performed m k .after in
+    let J : Isolated (standing D) (tx-of D) S =
+    subst (λ (f : ℕ → ℕ). Isolated f (tx-of D) S) (sym (B .cell))
+    (subst (λ (t : ℕ → Tx). Isolated (seen c k (standing m) (tx-of m) .cell) t S) (sym (B .tx))
+    (store-isolated (standing m) (tx-of m) S I c (w .0) (w .1) o)) in
+    let R = stores-done c S lt o ws (b .1) D (B .cells) (B .txs) J in
+    let a : performed m k .answer ≡ Ok 0 = B .answer ∙ ap (λ (o : Out). o .answer) E in (
+      R .0,
+      record {
+        done = rw (a, stores) (R .1 .done);
+        cells = R .1 .cells;
+        txs = R .1 .txs;
+        stands = R .1 .stands ∙ ap (stored ws) (B .cell ∙ ap (λ (o : Out). o .cell) E);
+        isolated = R .1 .isolated;
+      },
+    )

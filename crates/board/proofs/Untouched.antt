@@ -1,5 +1,5 @@
 -- A free node's cells: no request, step or abort changes them.
-use mathlib.Core.Path.{_≡_, refl, _∙_, ap}
+use mathlib.Core.Path.{subst, sym, _≡_, refl, _∙_, ap}
 use mathlib.Core.Bool.{true}
 use mathlib.Core.List.{List}
 use mathlib.Core.Logic.{⊎-elim}
@@ -40,11 +40,11 @@ use Rattle.door.specs.declared.call.Call.{Call}
 use Rattle.door.specs.declared.call.Call.the-variants as call
 use Rattle.door.specs.Door.{called, served}
 use Rattle.board.specs.Book.{Book, after}
-use Rattle.board.specs.Promise.{cells-of, Within, Untouched}
+use Rattle.board.specs.Promise.{cells-of, Untouched}
+use Rattle.board.proofs.Ranges.{Within}
 use Rattle.board.proofs.Views.{view, link}
 use Rattle.board.proofs.Held.{in-tx}
 use Rattle.board.proofs.Inv.{cards-of, Inv}
-use Rattle.board.proofs.Isolation.{outside}
 use Rattle.board.proofs.Effects.{step-unheld}
 use Rattle.board.proofs.Frames as frames
 use Rattle.board.proofs.Frames.{stored, stored-other, entry-within, free-unheld}
@@ -127,11 +127,10 @@ module _ (z : Size) (W : Within z) (b : Book) (I : Inv z b) (n : ℕ) (x : Field
   abbrev Keeps : LockState → Type 0
   Keeps t = free (t .cards) n ≡ true → standing (t .meaning) (node-cell n x) ≡ F (node-cell n x)
 
-  -- an enter that is accepted: it stores into its own node alone, which is not free then
-  entered-keeps : (c k : ℕ) (m : Mode) → c < z .cards → (r : Result (Unit {0}) LockFault) (o : Meaning) → r ≡ Ok tt
-      → standing o ≡ stored (entry-stores k m) F → Keeps (enter-by s c (first-stage k m) (r, o) .1)
-  entered-keeps c k m lt (Err f) o e h free-after = let w : _≡_ {A = ℕ} 0 1 = cc in absurd (omega arith)
-  entered-keeps c k m lt (Ok u) o e h free-after =
+  -- an enter stores into its own node alone, which is not free then
+  entered-keeps : (c k : ℕ) (m : Mode) → c < z .cards → (o : Meaning) → standing o ≡ stored (entry-stores k m) F
+      → Keeps (staged s o c (first-stage k m))
+  entered-keeps c k m lt o h free-after =
       ap (λ (f : ℕ → ℕ). f (node-cell n x)) h
       ∙ stored-other F k (node-cell n x) (entry-stores k m) (entry-within k m) (other-node k n x apart)
     where
@@ -153,16 +152,18 @@ module _ (z : Size) (W : Within z) (b : Book) (I : Inv z b) (n : ℕ) (x : Field
       (λ q. by-test (λ (t : Turn). Keeps (t .1)) (free (s .cards) k)
       (enter-by s c (first-stage k m) (stores c (entry-stores k m) (s .meaning))) (refuses s NotFree)
       (let D = done (ltb-true k (z .nodes) q) in
-      entered-keeps c k m lt (stores c (entry-stores k m) (s .meaning) .0)
-      (stores c (entry-stores k m) (s .meaning) .1) (D .answer) (D .cell))
+      subst (λ (p : Result (Unit {0}) LockFault × Meaning). Keeps (enter-by s c (first-stage k m) p .1))
+      (sym (D .1 .done))
+      (entered-keeps c k m lt (D .0) (D .1 .stands)))
       (λ _. refl))
       (λ q _. refl)
     where
-      done : k < z .nodes → Stored c (entry-stores k m) (s .meaning) (stores c (entry-stores k m) (s .meaning))
+      done : k < z .nodes → (o : Meaning) × Stored c (stage-of s) (entry-stores k m) (s .meaning) o
       done lk = let u = W .cards in let v = W .nodes in
-          stores-done c (entry-stores k m) (s .meaning) (I .kept .cells) (I .kept .txs) (omega arith)
-          (outside F (stage-of s c) (tx-of (s .meaning) c) (ap in-tx e) (I .kept .isolated .agrees c))
-          (within-below k (entry-stores k m) (omega arith) (entry-within k m))
+          stores-done c (stage-of s) (omega arith) (ap in-tx e) (entry-stores k m)
+          (within-below k (entry-stores k m) (omega arith) (entry-within k m)) (s .meaning) (I .kept .cells)
+          (I .kept .txs)
+          (I .kept .isolated)
   enter-keeps c k m lt (WriterEnters i at) e = λ _. refl
   enter-keeps c k m lt (ReaderEnters i at) e = λ _. refl
   enter-keeps c k m lt (Inside i j) e = λ _. refl

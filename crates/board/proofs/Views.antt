@@ -1,26 +1,32 @@
 -- A card as the line sees it: what its stage means for its place.
 use mathlib.Core.Path.{_≡_}
+use native.Mathlib.Omega.{arith}
 use mathlib.Core.Bool.{Bool, true, false}
 use Prim.Native.Nat.{ℕ, suc}
 use lib.Dec.{eqb}
 use Rattle.stages.specs.declared.stage.Mode.the-variants.{Read, Write}
 use Rattle.stages.specs.declared.stage.WriterEntry.the-variants.{W1, W2, W3, W4, W5, W6}
-use Rattle.stages.specs.declared.stage.ReaderEntry.the-variants.{R1, R2, R3, R4, R5, R6, R7, R8, R9, R10, R11, R12, R13, R14}
+use Rattle.stages.specs.declared.stage.ReaderEntry.the-variants.{R1, R2, R3, R4, R5, R6, R7, R8, R9, R10, R11, R12}
+use Rattle.stages.specs.declared.stage.ReaderEntry.the-variants.{R13, R14}
 use Rattle.stages.specs.declared.stage.Addition.the-variants.{A1, A2}
 use Rattle.stages.specs.declared.stage.WriterExit.the-variants.{X1, X2, X3, X4, X5}
 use Rattle.stages.specs.declared.stage.ReaderExit.the-variants.{Y1, Y2, Y3, Y4, Y5, Y6, Y7, Y8}
 use Rattle.stages.specs.declared.stage.Stage.{Stage}
-use Rattle.stages.specs.declared.stage.Stage.the-variants.{Idle, WriterEnters, ReaderEnters, Inside, Adds, WriterLeaves, ReaderLeaves}
+use Rattle.stages.specs.declared.stage.Stage.the-variants.{Idle, WriterEnters, ReaderEnters, Inside, Adds}
+use Rattle.stages.specs.declared.stage.Stage.the-variants.{WriterLeaves, ReaderLeaves}
 use Rattle.board.proofs.Cells.{next, prev, state, spin}
 
--- away: idle; comes: not in line yet; waits: in line, its spin not yet seen at 0; holds: a writer let in; turn: a reader
--- let in that is not active yet; sees and wakes: an active reader that looks at, or wakes, the node behind it; active: an
+-- away: idle; comes: not in line yet; waits: in line, its spin not yet seen at 0; holds: a writer let in; turn: a
+-- reader
+-- let in that is not active yet; sees and wakes: an active reader that looks at, or wakes, the node behind it;
+-- active: an
 -- active reader; hands: out of line, and about to wake the node q
 pub data View : Type 0 where
   away : View
   comesW comesR waitsW waitsR holdsW turnR activeR : ℕ → View
   seesR wakesR hands : ℕ → ℕ → View
 
+-- the view of each stage
 abbrev pub view : Stage → View
 view Idle = away
 view (WriterEnters n W1) = comesW n
@@ -61,6 +67,7 @@ view (ReaderLeaves n (Y8 q)) = hands n q
 view (Adds n (A1 k x)) = holdsW n
 view (Adds n (A2 k x v)) = holdsW n
 
+-- its node
 abbrev pub node : View → ℕ
 node away = 0
 node (comesW n) = n
@@ -102,6 +109,7 @@ joined (wakesR n q) = true
 joined (activeR n) = true
 joined (hands n q) = false
 
+-- whether it is a reader
 abbrev pub reader : View → Bool
 reader away = false
 reader (comesW n) = false
@@ -143,6 +151,7 @@ target (wakesR n q) = q
 target (activeR n) = 0
 target (hands n q) = 0
 
+-- whether it is about to wake the node behind
 abbrev pub waking : View → Bool
 waking away = false
 waking (comesW n) = false
@@ -197,3 +206,17 @@ Cells f (seesR n q) = f (state n) ≡ 3
 Cells f (wakesR n q) = f (state n) ≡ 3
 Cells f (activeR n) = f (state n) ≡ 3
 Cells f (hands n q) = Unit {0}
+
+-- the node that a link names
+pub link-node : (v : View) (m : ℕ) → link v ≡ suc m → node v ≡ m
+link-node away m e = absurd (omega arith)
+link-node (comesW n) m e = omega arith
+link-node (comesR n) m e = omega arith
+link-node (waitsW n) m e = omega arith
+link-node (waitsR n) m e = omega arith
+link-node (holdsW n) m e = omega arith
+link-node (turnR n) m e = omega arith
+link-node (activeR n) m e = omega arith
+link-node (seesR n q) m e = omega arith
+link-node (wakesR n q) m e = omega arith
+link-node (hands n q) m e = omega arith

@@ -36,9 +36,10 @@ use Rattle.door.specs.declared.call.Call.the-variants as call
 use Rattle.door.specs.Door.{called, served}
 use Rattle.board.specs.Book.{Book, Place, after, fed-from}
 use Rattle.board.specs.Promise as promise
-use Rattle.board.specs.Promise.{cells-of, stage, Within, No-step, Wakes-next, Wakes, Waits, Wakes-stand}
+use Rattle.board.specs.Promise.{cells-of, stage, No-step, Wakes-next, Wakes, Waits, Wakes-stand}
+use Rattle.board.proofs.Ranges.{Within}
 use Rattle.board.proofs.Cells.{at-same, clash, state, spin}
-use Rattle.board.proofs.Views.{View, view, node, link, joined, reader, active, target, hand, granted, Cells}
+use Rattle.board.proofs.Views.{link-node, View, view, node, link, joined, reader, active, target, hand, granted, Cells}
 use Rattle.board.proofs.Chain.{Chain, Baton, chain-behind}
 use Rattle.board.proofs.Held.{in-tx}
 use Rattle.board.proofs.Model.{seen, seen-on}
@@ -50,7 +51,7 @@ use Rattle.board.proofs.Join.{active-state}
 use Rattle.board.proofs.Moves.{aimed}
 use Rattle.board.proofs.Turns.{moved-same, moved-other, same-stage, Taken, Served, served-moves, request-cases}
 use Rattle.board.proofs.Turns.{step-cases, step-is, abort-cases, reuse-cards}
-use Rattle.board.proofs.Stands.{place, link-node, chain-from, seat-in, in-place}
+use Rattle.board.proofs.Stands.{place, chain-from, seat-in, in-place}
 
 -- Tables: who is about to wake the node m.
 
@@ -161,6 +162,7 @@ firm-x5 n q = record {
   alone = λ N c. refl;
 }
 
+-- a leaving reader about to wake
 firm-y8 : (n q : ℕ) → Firm (ReaderLeaves n (Y8 q))
 firm-y8 n q = record {
   busy = λ e. let w : _≡_ {A = ℕ} 0 1 = cc in omega arith;
@@ -168,6 +170,7 @@ firm-y8 n q = record {
   alone = λ N c. refl;
 }
 
+-- a reader about to look behind
 firm-r13 : (n q : ℕ) → Firm (ReaderEnters n (R13 q))
 firm-r13 n q = record {
   busy = λ e. let w : _≡_ {A = ℕ} 0 1 = cc in omega arith;
@@ -175,6 +178,7 @@ firm-r13 n q = record {
   alone = λ N c. refl;
 }
 
+-- a reader about to wake
 firm-r14 : (n q : ℕ) → Firm (ReaderEnters n (R14 q))
 firm-r14 n q = record {
   busy = λ e. let w : _≡_ {A = ℕ} 0 1 = cc in omega arith;
@@ -182,6 +186,7 @@ firm-r14 n q = record {
   alone = λ N c. refl;
 }
 
+-- a waiting reader
 firm-r8 : (n : ℕ) → Firm (ReaderEnters n R8)
 firm-r8 n = record {
   busy = λ e. let w : _≡_ {A = ℕ} 0 1 = cc in omega arith;

@@ -25,15 +25,14 @@ use Rattle.stages.specs.declared.stage.Card.{Card}
 use Rattle.lock.specs.Lock.{Size, idle-card, stage-of}
 use Rattle.lock.specs.Lines.{line-link, seen, behind, points, has-ahead, leads, first-link, walk, nodes-in-line}
 use Rattle.board.specs.Book.{Book, Place}
-use Rattle.board.specs.Promise.{Within}
+use Rattle.board.proofs.Ranges.{Within}
 use Rattle.board.proofs.Cells.{clash, next}
-use Rattle.board.proofs.Views.{View, view, node, link, joined}
+use Rattle.board.proofs.Views.{link-node, View, view, node, link, joined}
 use Rattle.board.proofs.Chain.{Spot, End, Chain, In, Once, chain-pred, chain-behind, chain-joined}
 use Rattle.board.proofs.Inv.{cards-of, Seated, Inv}
 use Rattle.board.proofs.Lists.{once-few}
 use Rattle.board.proofs.Links.{sound-link}
 use Rattle.board.proofs.Moves.{joined-link}
-use Rattle.board.proofs.Stands.{link-node}
 
 -- Tables of the stages.
 

@@ -1,4 +1,4 @@
--- The book: a second record of every run, kept by the published rules alone.
+-- The book: a second record of every run, kept by the rules of the memory, the lock and the door alone.
 -- It takes nothing from a board or its memory. It is fed the same calls, with their arguments alone, and keeps a
 -- meaning, stages and remembered requests of its own; and beside them the line, the finished adds and what was asked.
 use mathlib.Core.Bool.{Bool, true, false, cond}
@@ -10,19 +10,20 @@ use Rattle.std.specs.declared.option.Option.{Option}
 use Rattle.std.specs.declared.option.Option.the-variants.{Some, None}
 use Rattle.std.specs.declared.result.Result.{Result}
 use Rattle.std.specs.declared.result.Result.the-variants.{Ok, Err}
-use Rattle.memory.specs.declared.fault.MemoryFault.{MemoryFault}
 use Rattle.memory.specs.declared.call.MemoryCall.{MemoryCall}
 use Rattle.memory.specs.Meaning.{Meaning}
 use Rattle.memory.specs.Calls.{performed}
 use Rattle.stages.specs.declared.stage.Mode.{Mode}
 use Rattle.stages.specs.declared.stage.Mode.the-variants.{Read, Write}
 use Rattle.stages.specs.declared.stage.WriterEntry.the-variants.{W1, W2, W3, W4, W5, W6}
-use Rattle.stages.specs.declared.stage.ReaderEntry.the-variants.{R1, R2, R3, R4, R5, R6, R7, R8, R9, R10, R11, R12, R13, R14}
+use Rattle.stages.specs.declared.stage.ReaderEntry.the-variants.{R1, R2, R3, R4, R5, R6, R7, R8, R9, R10, R11, R12}
+use Rattle.stages.specs.declared.stage.ReaderEntry.the-variants.{R13, R14}
 use Rattle.stages.specs.declared.stage.Addition.the-variants.{A1, A2}
 use Rattle.stages.specs.declared.stage.WriterExit.the-variants.{X1, X2, X3, X4, X5}
 use Rattle.stages.specs.declared.stage.ReaderExit.the-variants.{Y1, Y2, Y3, Y4, Y5, Y6, Y7, Y8}
 use Rattle.stages.specs.declared.stage.Stage.{Stage}
-use Rattle.stages.specs.declared.stage.Stage.the-variants.{Idle, WriterEnters, ReaderEnters, Inside, Adds, WriterLeaves, ReaderLeaves}
+use Rattle.stages.specs.declared.stage.Stage.the-variants.{Idle, WriterEnters, ReaderEnters, Inside, Adds}
+use Rattle.stages.specs.declared.stage.Stage.the-variants.{WriterLeaves, ReaderLeaves}
 use Rattle.stages.specs.Rows.{call-of}
 use Rattle.lock.specs.Lock.{Size, LockState, stage-of}
 use Rattle.door.specs.declared.request.Request.{Request}
@@ -44,6 +45,7 @@ pub record Sum : Type 0 where
   pub counter : ℕ
   pub amount : ℕ
 
+-- what the book keeps
 pub record Book : Type 0 where
   -- a meaning, stages and remembered requests of its own
   pub board : DoorState
@@ -68,6 +70,7 @@ pub data Deed : Type 0 where
   parts : Deed
   finishes : ℕ → ℕ → Deed
 
+-- the deed of each row: the commits of W5 and R7 join, those of X4 and Y7 take out, the store of A2 finishes an add
 abbrev pub deed : Stage → Deed
 deed Idle = plain
 deed (WriterEnters n W1) = plain
@@ -107,7 +110,7 @@ deed (ReaderLeaves n (Y6 p t)) = plain
 deed (ReaderLeaves n (Y7 p t s)) = parts
 deed (ReaderLeaves n (Y8 t)) = plain
 
--- the line without the place of a card
+-- the line without the place of a card; a card has one place at most, and it has the card's node
 abbrev pub without : ℕ → List Place → List Place
 without c [] = []
 without c (p ∷ l) = cond (eqb (p .card) c) l (p ∷ without c l)

@@ -1,7 +1,7 @@
 ghost use mathlib.Core.Path.{_≡_};
 ghost use Prim.Native.Nat.{_<_};
 ghost use Rattle.memory.specs.Marks.{marks-of};
-ghost use Rattle.memory.specs.Meaning.{cleared, with-tx, served, read-open, write-open, value-in, recording};
+ghost use Rattle.memory.specs.Meaning.{cleared, looking, with-tx, served, read-open, write-open, value-in, recording};
 ghost use Rattle.deferred.specs.Deferral.{writes-of, tx-in, meaning-of, Fetched};
 use crate::deferred::Deferred;
 use crate::doom::doom;
@@ -23,6 +23,14 @@ impl Deferred {
             cells: [0u16; 137],
             txs: [Transaction::Closed; 8],
         }
+    }
+
+    // What the cell itself holds, for whoever looks inside: here it is always the standing value.
+    pub fn held(&self, cell: usize) -> Result<u16, MemoryFault>
+        ensures { λ r. ⌜ r ≡ looking (meaning-of (now (self .entry))) cell ⌝ }
+    {
+        check_range(0, cell)?;
+        Ok(self.cells[cell])
     }
 
     // The card's transaction, for a call at a cell.

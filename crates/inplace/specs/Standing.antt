@@ -1,8 +1,9 @@
 -- What a memory that writes in place means: the old values, put back, are the standing ones.
 use mathlib.Core.Path.{_≡_}
 use mathlib.Core.List.{List, map}
-use mathlib.Core.Bool.{false}
+use mathlib.Core.Bool.{cond, false}
 use Prim.Native.Nat.{ℕ, _<_}
+use lib.Dec.{ltb}
 use lib.ListN.{getD}
 use Rattle.std.specs.declared.result.Result.{Result}
 use Rattle.std.specs.declared.result.Result.the-variants.{Ok, Err}
@@ -22,6 +23,11 @@ meant cells txs = record { cells = landed cells (undoes txs); txs = map (tx-in c
 -- the meaning of the memory
 abbrev pub meaning-of : InPlace → Meaning
 meaning-of e = meant (e .cells) (e .txs)
+
+-- what a cell itself holds
+abbrev pub holding : InPlace → ℕ → Result ℕ MemoryFault
+holding e cell =
+    cond (ltb cell 137) (Ok (getD (e .cells) cell 0)) (Err (record { refusal = OutOfRange; card = 0; cell = cell }))
 
 -- an accepted access by a card that keeps its own transaction
 abbrev pub dooming : Access → ℕ → ℕ → Meaning → Meaning

@@ -1,6 +1,6 @@
 ghost use mathlib.Core.Path.{_≡_};
 ghost use Rattle.memory.specs.Meaning.{cleared};
-ghost use Rattle.inplace.specs.Standing.{meaning-of};
+ghost use Rattle.inplace.specs.Standing.{meaning-of, holding};
 use crate::inplace::InPlace;
 use crate::log::Log;
 use crate::log::Transaction;
@@ -19,6 +19,14 @@ impl InPlace {
             cells: [0u16; 137],
             txs: [Transaction::Closed; 8],
         }
+    }
+
+    // What the cell itself holds, for whoever looks inside: the newest value, which may not stand yet.
+    pub fn held(&self, cell: usize) -> Result<u16, MemoryFault>
+        ensures { λ r. ⌜ r ≡ holding (now (self .entry)) cell ⌝ }
+    {
+        check_range(0, cell)?;
+        Ok(self.cells[cell])
     }
 }
 

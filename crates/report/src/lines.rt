@@ -1,12 +1,13 @@
 // Whole lines, each with its line end.
+ghost use mathlib.Core.List.{_++_};
 ghost use mathlib.Core.Path.{_≡_};
+ghost use lib.Chars.{codes};
+ghost use Rattle.std.specs.Written.{decimal};
 ghost use Rattle.std.specs.Of.String.{string-bytes};
 ghost use Rattle.std.specs.Vec.{made};
 ghost use Rattle.report.specs.Texts.{answerLine, badLine, sizesLine, queueLine};
-use crate::words::Accepted;
-use crate::words::AcceptedDisplay;
-use crate::words::Refused;
-use crate::words::RefusedDisplay;
+use crate::words::Outcome;
+use crate::words::OutcomeDisplay;
 use door::fault::DoorFault;
 use lock::fault::SizeFault;
 use stages::answer::Answer;
@@ -23,16 +24,8 @@ pub fn answer_line(
 ) -> Result<String, AllocError>
     ensures { λ r. ⌜ made r (λ s. string-bytes s ≡ answerLine k result) ⌝ }
 {
-    match result {
-        Ok(answer) => {
-            let words = Accepted(answer);
-            format!(heap, "{k} {words}\n")
-        }
-        Err(fault) => {
-            let words = Refused(fault);
-            format!(heap, "{k} {words}\n")
-        }
-    }
+    let outcome = Outcome(result);
+    format!(heap, "{k} {outcome}\n")
 }
 
 // The line that ends a run whose schedule is at fault.
@@ -51,14 +44,20 @@ pub fn refused_sizes(heap: Global, fault: SizeFault) -> Result<String, AllocErro
     }
 }
 
+// One node of the queue line.
+fn queued(heap: Global, node: u16) -> Result<String, AllocError>
+    ensures { λ r. ⌜ made r (λ s. string-bytes s ≡ codes " " ++ decimal node) ⌝ }
+{
+    format!(heap, " {node}")
+}
+
 // The line that ends a whole run: the nodes in line.
 pub fn queue_line(heap: Global, nodes: &[u16]) -> Result<String, AllocError>
     ensures { λ r. ⌜ made r (λ s. string-bytes s ≡ queueLine (now (nodes .entry))) ⌝ }
 {
     let mut out = String::from_str(heap, "queue")?;
     for n in nodes {
-        let field = format!(heap, " {n}")?;
-        out.push_str(field.as_str())?;
+        out.push_str(queued(heap, *n)?.as_str())?;
     }
     out.push_str("\n")?;
     Ok(out)

@@ -11,13 +11,17 @@ use std::fmt::Write;
 
 // The answer of an accepted call.
 #[derive(Clone, Copy)]
-pub struct Accepted(pub Answer);
+struct Accepted(Answer);
 
 // The fault of a refused call.
 #[derive(Clone, Copy)]
-pub struct Refused(pub DoorFault);
+struct Refused(DoorFault);
 
-pub impl fmt::Display for Accepted as AcceptedDisplay {
+// What a call gave.
+#[derive(Drop)]
+pub struct Outcome(pub Result<Answer, DoorFault>);
+
+impl fmt::Display for Accepted as AcceptedDisplay {
     ghost shown = { λ a. Some (words (Ok (a .0))) };
 
     fn fmt<W: fmt::Write>(&self, f: &mut fmt::Formatter<W>) -> fmt::Result {
@@ -34,7 +38,7 @@ pub impl fmt::Display for Accepted as AcceptedDisplay {
     }
 }
 
-pub impl fmt::Display for Refused as RefusedDisplay {
+impl fmt::Display for Refused as RefusedDisplay {
     ghost shown = { λ r. Some (words (Err (r .0))) };
 
     fn fmt<W: fmt::Write>(&self, f: &mut fmt::Formatter<W>) -> fmt::Result {
@@ -56,6 +60,23 @@ pub impl fmt::Display for Refused as RefusedDisplay {
                     write!(f, "refused 8 {number} {cell}")
                 }
             },
+        }
+    }
+}
+
+pub impl fmt::Display for Outcome as OutcomeDisplay {
+    ghost shown = { λ o. Some (words (o .0)) };
+
+    fn fmt<W: fmt::Write>(&self, f: &mut fmt::Formatter<W>) -> fmt::Result {
+        match self.0 {
+            Ok(answer) => {
+                let accepted = Accepted(answer);
+                write!(f, "{accepted}")
+            }
+            Err(fault) => {
+                let refused = Refused(fault);
+                write!(f, "{refused}")
+            }
         }
     }
 }

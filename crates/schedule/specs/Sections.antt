@@ -20,6 +20,11 @@ pub record SizeSection (bs : List ℕ) (s : SizeLines) (after : List ℕ) : Type
   pub small : Small (s .cards ∷ s .nodes ∷ s .counters ∷ [])
   pub whole : bs ≡ textOf (decimal 3 ∷ decimal (s .cards) ∷ decimal (s .nodes) ∷ decimal (s .counters) ∷ []) ++ after
 
+-- the number of the next line and what is behind it; where there is none, `line` is at fault
+abbrev pub TakesNumber : List ℕ → ℕ → Result (ℕ × RefT (List ℕ)) FormFault → Type 0
+TakesNumber bs line (Ok p) = NumberLine bs (p .0) (p .1 .now)
+TakesNumber bs line (Err f) = (f ≡ BadLine line) × ((n : ℕ) (after : List ℕ) → NumberLine bs n after → ⊥)
+
 -- the sizes, of a text of at most 65,535 bytes; too long is said before all else,
 -- and a bad line is the first at which the text stops to be that of a schedule
 abbrev pub TakesSizes : List ℕ → Result (SizeLines × RefT (List ℕ)) FormFault → Type 0

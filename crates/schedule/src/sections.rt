@@ -4,13 +4,12 @@ ghost use Prim.Native.Nat.{_+_, _<_, _≤_};
 ghost use lib.ListN.{length};
 ghost use Rattle.std.specs.Results.{Cases};
 ghost use Rattle.textline.specs.declared.faults.FormFault.the-variants.{TooLong, BadLine};
-ghost use Rattle.schedule.specs.Sections.{TakesSizes, TakesCount, TakesEvent, TakesEnd};
+ghost use Rattle.schedule.specs.Sections.{TakesNumber, TakesSizes, TakesCount, TakesEvent, TakesEnd};
 use textline::Event;
 use textline::FormFault;
 use textline::SizeLines;
-use textline::cut_line;
-use textline::number_line;
-use textline::read_event;
+use textline::cut_event;
+use textline::cut_number;
 
 // The most bytes that a schedule has.
 const LONGEST: usize = 65535;
@@ -64,6 +63,16 @@ pub fn line_of_event(index: u16) -> u32
     FIRST_EVENT + u32::from(index)
 }
 
+// The number that is alone on the next line, which is number `line` of its text.
+fn number_line(text: &[u8], line: u32) -> Result<(u16, &[u8]), FormFault>
+    ensures { λ r. ⌜ TakesNumber (now (text .entry)) line r ⌝ }
+{
+    match cut_number(text) {
+        Some((n, rest)) => Ok((n, rest)),
+        None => Err(FormFault::BadLine { line }),
+    }
+}
+
 // Judges the length of the whole text, then takes the size section off its front.
 pub fn take_sizes(text: &[u8]) -> Result<(SizeLines, &[u8]), FormFault>
     ensures { λ r. ⌜ TakesSizes (now (text .entry)) r ⌝ }
@@ -95,14 +104,12 @@ pub fn take_count(text: &[u8]) -> Result<(u16, &[u8]), FormFault>
 pub fn take_event(text: &[u8], index: u16) -> Result<(Event, &[u8]), FormFault>
     ensures { λ r. ⌜ TakesEvent (now (text .entry)) index r ⌝ }
 {
-    let line = line_of_event(index);
-    let Some((bytes, rest)) = cut_line(text) else {
-        return Err(FormFault::BadLine { line });
-    };
-    let Some(e) = read_event(bytes) else {
-        return Err(FormFault::BadLine { line });
-    };
-    Ok((e, rest))
+    match cut_event(text) {
+        Some((e, rest)) => Ok((e, rest)),
+        None => Err(FormFault::BadLine {
+            line: line_of_event(index),
+        }),
+    }
 }
 
 // Judges that nothing follows the last of `count` events, not even a byte without a line end.

@@ -7,11 +7,7 @@ use denote.Ref.{RefT}
 use Rattle.std.specs.Written.{decimal}
 use Rattle.std.specs.declared.option.Option.{Option}
 use Rattle.std.specs.declared.option.Option.the-variants.{Some, None}
-use Rattle.std.specs.declared.result.Result.{Result}
-use Rattle.std.specs.declared.result.Result.the-variants.{Ok, Err}
 use Rattle.textline.specs.declared.events.Event.{Event}
-use Rattle.textline.specs.declared.faults.FormFault.{FormFault}
-use Rattle.textline.specs.declared.faults.FormFault.the-variants.{TooLong, BadLine}
 use Rattle.textline.specs.Events.{written, numbersOf}
 use Rattle.textline.specs.Numbers.{Small}
 
@@ -34,12 +30,17 @@ pub record NumberLine (bs : List ℕ) (n : ℕ) (after : List ℕ) : Type 0 wher
   pub small : n < 65536
   pub whole : bs ≡ decimal n ++ (10 ∷ after)
 
--- the number of the first line and what is behind it; where there is none, `line` is named as the fault
-abbrev pub TakesNumber : List ℕ → ℕ → Result (ℕ × RefT (List ℕ)) FormFault → Type 0
-TakesNumber bs line (Ok p) = NumberLine bs (p .0) (p .1 .now)
-TakesNumber bs line (Err f) = (f ≡ BadLine line) × ((n : ℕ) (after : List ℕ) → NumberLine bs n after → ⊥)
-
 -- bs begins with the line of the event e, whose numbers are at most 65,535
 pub record EventLine (bs : List ℕ) (e : Event) (after : List ℕ) : Type 0 where
   pub small : Small (numbersOf e)
   pub whole : bs ≡ written e ++ (10 ∷ after)
+
+-- the number of the first line and what is behind it; where there is none, bs begins with no such line
+abbrev pub CutsNumber : List ℕ → Option (ℕ × RefT (List ℕ)) → Type 0
+CutsNumber bs (Some p) = NumberLine bs (p .0) (p .1 .now)
+CutsNumber bs None = (n : ℕ) (after : List ℕ) → NumberLine bs n after → ⊥
+
+-- the event of the first line and what is behind it; where there is none, bs begins with no such line
+abbrev pub CutsEvent : List ℕ → Option (Event × RefT (List ℕ)) → Type 0
+CutsEvent bs (Some p) = EventLine bs (p .0) (p .1 .now)
+CutsEvent bs None = (e : Event) (after : List ℕ) → EventLine bs e after → ⊥

@@ -9,6 +9,5 @@ pub use events::SizeLines;
 pub use faults::FormFault;
 pub use faults::FormFaultDebug;
 pub use faults::FormFaultDisplay;
-pub use lines::cut_line;
-pub use lines::number_line;
-pub use lines::read_event;
+pub use lines::cut_event;
+pub use lines::cut_number;

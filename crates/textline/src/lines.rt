@@ -1,9 +1,8 @@
 // Lines of a schedule: each ends with byte 10.
 ghost use Rattle.textline.specs.Numbers.{Found};
 ghost use Rattle.textline.specs.Events.{Writes};
-ghost use Rattle.textline.specs.Lines.{CutsLine, TakesNumber};
+ghost use Rattle.textline.specs.Lines.{CutsLine, CutsNumber, CutsEvent};
 use crate::events::Event;
-use crate::faults::FormFault;
 use crate::numerals::number;
 use crate::numerals::numbers;
 
@@ -21,17 +20,22 @@ pub fn cut_line(s: &[u8]) -> Option<(&[u8], &[u8])>
     None
 }
 
-// The number that is alone on the next line, which is the line number `line` of its text.
-pub fn number_line(s: &[u8], line: u32) -> Result<(u16, &[u8]), FormFault>
-    ensures { λ r. ⌜ TakesNumber (now (s .entry)) line r ⌝ }
+// The number that is alone on the first line, and the lines behind it.
+pub fn cut_number(s: &[u8]) -> Option<(u16, &[u8])>
+    ensures { λ r. ⌜ CutsNumber (now (s .entry)) r ⌝ }
 {
-    let Some((digits, after)) = cut_line(s) else {
-        return Err(FormFault::BadLine { line });
-    };
-    let Some(n) = number(digits) else {
-        return Err(FormFault::BadLine { line });
-    };
-    Ok((n, after))
+    let (digits, after) = cut_line(s)?;
+    let n = number(digits)?;
+    Some((n, after))
+}
+
+// The event of the first line, and the lines behind it.
+pub fn cut_event(s: &[u8]) -> Option<(Event, &[u8])>
+    ensures { λ r. ⌜ CutsEvent (now (s .entry)) r ⌝ }
+{
+    let (line, after) = cut_line(s)?;
+    let e = read_event(line)?;
+    Some((e, after))
 }
 
 // The event that a line without its end writes.
