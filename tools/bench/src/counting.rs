@@ -14,8 +14,10 @@ const SINGLE: usize = 1500;
 type Board = (&'static str, fn(&[u16], u32) -> u64);
 const BOARDS: [Board; 2] = [("proved", proved), ("plain", plain)];
 
-/// One run of the first `calls` calls, and none: the difference leaves out the decoding.
+/// One run of the first `calls` calls, and none: the difference leaves out the decoding. A run ahead that is not counted
+/// brings the heap into the same state for both.
 fn count_prefix((board, run): Board, workload: &str, codes: &[u16], calls: usize) {
+    std::hint::black_box(run(&codes[..7 * calls], 1));
     for times in [0, 1] {
         counted(&format!("{board}/{workload}/{calls}/{times}"), || run(&codes[..7 * calls], times));
     }
@@ -43,8 +45,14 @@ pub fn report(file: &str) {
                 of(1) - of(0)
             };
             let mean = (run(WHOLE) - run(0)) as f64 / WHOLE as f64;
-            println!("{} on {board}: mean {mean:.1} instructions a call over {WHOLE} calls", workload.name);
-            print_kinds(&drawn, |k| run(k + 1) - run(k));
+            let cost = |k: usize| run(k + 1) - run(k);
+            let worst_step = (0..SINGLE).filter(|&k| matches!(drawn[k].call, Call::Step { .. })).map(cost).max();
+            println!(
+                "{} on {board}: mean {mean:.1} instructions a call over {WHOLE} calls; worst step of the first {SINGLE}: {}",
+                workload.name,
+                worst_step.unwrap_or(0),
+            );
+            print_kinds(&drawn, cost);
         }
     }
 }
@@ -70,10 +78,10 @@ fn kind(drawn: &Drawn) -> String {
         }
         Call::Abort { .. } => "abort".into(),
         Call::Reuse { .. } => "reuse".into(),
-        Call::Request { kind, .. } => {
-            ["request", "enter read", "enter write", "leave", "add", "show"].get(usize::from(kind)).unwrap_or(&"request")
-                .to_string()
-        }
+        Call::Request { kind, .. } => ["request", "enter read", "enter write", "leave", "add", "show"]
+            .get(usize::from(kind))
+            .unwrap_or(&"request")
+            .to_string(),
     }
 }
 
