@@ -14,8 +14,8 @@ const SINGLE: usize = 1500;
 type Board = (&'static str, fn(&[u16], u32) -> u64);
 const BOARDS: [Board; 2] = [("proved", proved), ("plain", plain)];
 
-/// One run of the first `calls` calls, and none: the difference leaves out the decoding. A run ahead that is not counted
-/// brings the heap into the same state for both.
+/// One run of the first `calls` calls, and none: the difference leaves out the decoding. A run ahead that is not
+/// counted brings the heap into the same state for both.
 fn count_prefix((board, run): Board, workload: &str, codes: &[u16], calls: usize) {
     std::hint::black_box(run(&codes[..7 * calls], 1));
     for times in [0, 1] {
@@ -48,7 +48,7 @@ pub fn report(file: &str) {
             let cost = |k: usize| run(k + 1) - run(k);
             let worst_step = (0..SINGLE).filter(|&k| matches!(drawn[k].call, Call::Step { .. })).map(cost).max();
             println!(
-                "{} on {board}: mean {mean:.1} instructions a call over {WHOLE} calls; worst step of the first {SINGLE}: {}",
+                "{} on {board}: instructions a call, mean of {WHOLE}: {mean:.1}; worst step of the first {SINGLE}: {}",
                 workload.name,
                 worst_step.unwrap_or(0),
             );
