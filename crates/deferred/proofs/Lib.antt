@@ -1,1 +1,2 @@
 mod Writes
+mod Own

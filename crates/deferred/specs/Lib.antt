@@ -1,1 +1,2 @@
 pub mod Deferral
+pub mod Own

@@ -1,8 +1,7 @@
 ghost use mathlib.Core.Path.{_≡_};
 ghost use Prim.Native.Nat.{_<_};
-ghost use Rattle.memory.specs.Marks.{marks-of};
-ghost use Rattle.memory.specs.Meaning.{cleared, looking, with-tx, served, read-open, write-open, value-in, recording};
-ghost use Rattle.deferred.specs.Deferral.{writes-of, tx-in, meaning-of, Fetched};
+ghost use Rattle.memory.specs.Meaning.{cleared, looking, with-tx};
+ghost use Rattle.deferred.specs.Deferral.{tx-in, meaning-of, Fetched};
 use crate::deferred::Deferred;
 use crate::doom::doom;
 use crate::land::land;
@@ -48,66 +47,6 @@ impl Deferred {
     {
         self.txs[card] = tx;
     }
-
-    // An accepted access: the transactions of others that it goes against are doomed, and the card has its own.
-    fn serve(&mut self, how: Access, card: usize, cell: usize, own: Transaction)
-        requires { ⌜ card < 8 ⌝ }
-        ensures { λ _. ⌜
-            meaning-of (now (self .exit)) ≡ served how card cell (tx-in own) (meaning-of (now (self .entry))) ⌝ }
-    {
-        doom(&mut self.txs, card, how, cell);
-        self.txs[card] = own;
-    }
-
-    // A read in an open transaction. A cell number is cast only past the range check, so that the cast is proved to
-    // lose nothing.
-    fn read_open(&mut self, mut log: Log, card: usize, cell: usize) -> Result<u16, MemoryFault>
-        requires at { ⌜ (card < 8) × (cell < 137) ⌝ }
-        ensures answer { λ r. ⌜
-            r ≡ read-open (meaning-of (now (self .entry))) card cell (marks-of (log .marks)) (writes-of log)
-            (value-in (writes-of log) cell) .answer ⌝ }
-        ensures after { λ _. ⌜
-            meaning-of (now (self .exit))
-            ≡ read-open (meaning-of (now (self .entry))) card cell (marks-of (log .marks)) (writes-of log)
-            (value-in (writes-of log) cell) .after ⌝ }
-    {
-        if let Some(value) = log.value_of(cell) {
-            self.serve(Access::Reads, card, cell, Transaction::Open(log));
-            return Ok(value);
-        }
-        if !log.marks.mark(cell as u8) {
-            self.put(card, Transaction::Closed);
-            return Err(Refusal::Full.at(card, cell));
-        }
-        let value = self.cells[cell];
-        self.serve(Access::Reads, card, cell, Transaction::Open(log));
-        Ok(value)
-    }
-
-    // A write in an open transaction.
-    fn write_open(
-        &mut self,
-        mut log: Log,
-        card: usize,
-        cell: usize,
-        value: u16,
-    ) -> Result<(), MemoryFault>
-        requires at { ⌜ (card < 8) × (cell < 137) ⌝ }
-        ensures answer { λ r. ⌜
-            r ≡ write-open (meaning-of (now (self .entry))) card cell (marks-of (log .marks))
-            (recording (writes-of log) cell value) .answer ⌝ }
-        ensures after { λ _. ⌜
-            meaning-of (now (self .exit))
-            ≡ write-open (meaning-of (now (self .entry))) card cell (marks-of (log .marks))
-            (recording (writes-of log) cell value) .after ⌝ }
-    {
-        if !log.record(cell as u8, value) {
-            self.put(card, Transaction::Closed);
-            return Err(Refusal::Full.at(card, cell));
-        }
-        self.serve(Access::Writes, card, cell, Transaction::Open(log));
-        Ok(())
-    }
 }
 
 pub impl Memory for Deferred as DeferredMemory {
@@ -126,7 +65,7 @@ pub impl Memory for Deferred as DeferredMemory {
         match self.transaction(card, cell)? {
             Transaction::Closed => {
                 let value = self.cells[cell];
-                self.serve(Access::Reads, card, cell, Transaction::Closed);
+                doom(&mut self.txs, card, Access::Reads, cell);
                 Ok(value)
             }
             Transaction::Open(_) | Transaction::Doomed => Err(Refusal::Already.at(card, cell)),
@@ -136,7 +75,7 @@ pub impl Memory for Deferred as DeferredMemory {
     fn store(&mut self, card: usize, cell: usize, value: u16) -> Result<(), MemoryFault> {
         match self.transaction(card, cell)? {
             Transaction::Closed => {
-                self.serve(Access::Writes, card, cell, Transaction::Closed);
+                doom(&mut self.txs, card, Access::Writes, cell);
                 self.cells[cell] = value;
                 Ok(())
             }
@@ -154,25 +93,27 @@ pub impl Memory for Deferred as DeferredMemory {
         }
     }
 
+    // The cast keeps the number, which is below 137.
     fn read(&mut self, card: usize, cell: usize) -> Result<u16, MemoryFault> {
-        match self.transaction(card, cell)? {
-            Transaction::Closed => Err(Refusal::NoTransaction.at(card, cell)),
-            Transaction::Open(log) => self.read_open(log, card, cell),
-            Transaction::Doomed => {
-                self.put(card, Transaction::Closed);
-                Err(Refusal::Doomed.at(card, cell))
+        check_range(card, cell)?;
+        let standing = self.cells[cell];
+        match self.txs[card].read(cell as u8, standing) {
+            Ok(value) => {
+                doom(&mut self.txs, card, Access::Reads, cell);
+                Ok(value)
             }
+            Err(refusal) => Err(refusal.at(card, cell)),
         }
     }
 
     fn write(&mut self, card: usize, cell: usize, value: u16) -> Result<(), MemoryFault> {
-        match self.transaction(card, cell)? {
-            Transaction::Closed => Err(Refusal::NoTransaction.at(card, cell)),
-            Transaction::Open(log) => self.write_open(log, card, cell, value),
-            Transaction::Doomed => {
-                self.put(card, Transaction::Closed);
-                Err(Refusal::Doomed.at(card, cell))
+        check_range(card, cell)?;
+        match self.txs[card].write(cell as u8, value) {
+            Ok(()) => {
+                doom(&mut self.txs, card, Access::Writes, cell);
+                Ok(())
             }
+            Err(refusal) => Err(refusal.at(card, cell)),
         }
     }
 

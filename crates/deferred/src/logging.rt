@@ -6,9 +6,11 @@ ghost use Rattle.std.specs.declared.option.Option.the-variants.{Some, None};
 ghost use Rattle.memory.specs.Marks.{marks-of};
 ghost use Rattle.memory.specs.Meaning.{conflicts, wrote, value-in, recording};
 ghost use Rattle.deferred.specs.Deferral.{writes-of, tx-in};
+ghost use Rattle.deferred.specs.Own.{own-read, own-read-open, own-write, read-by};
 use crate::log::Log;
 use crate::log::Transaction;
 use memory::access::Access;
+use memory::fault::Refusal;
 use memory::marks::Marks;
 use memory::search::WriteCelled;
 use memory::search::find;
@@ -53,6 +55,22 @@ impl Log {
         }
     }
 
+    // Reads the cell: the value set aside for it, or else the standing one with a mark; none at a fifth mark.
+    pub(crate) fn read(&mut self, cell: u8, standing: u16) -> Option<u16>
+        ensures { λ r. ⌜
+            own-read-open (marks-of (now (self .entry) .marks)) (writes-of (now (self .entry))) cell standing
+            (value-in (writes-of (now (self .entry))) cell)
+            ≡ read-by r (marks-of (now (self .exit) .marks)) (writes-of (now (self .exit))) ⌝ }
+    {
+        if let Some(value) = self.value_of(cell as usize) {
+            return Some(value);
+        }
+        if !self.marks.mark(cell) {
+            return None;
+        }
+        Some(standing)
+    }
+
     // Sets the value aside, in place of an earlier one of the cell; false, and no change, where it would be a
     // fifth.
     pub(crate) fn record(&mut self, cell: u8, value: u16) -> bool
@@ -77,6 +95,50 @@ impl Log {
 }
 
 impl Transaction {
+    // Reads the cell for the transaction's own card.
+    pub(crate) fn read(&mut self, cell: u8, standing: u16) -> Result<u16, Refusal>
+        ensures { λ r. ⌜ (r, tx-in (now (self .exit))) ≡ own-read (tx-in (now (self .entry))) cell standing ⌝ }
+    {
+        match *self {
+            Transaction::Closed => Err(Refusal::NoTransaction),
+            Transaction::Doomed => {
+                *self = Transaction::Closed;
+                Err(Refusal::Doomed)
+            }
+            Transaction::Open(mut log) => match log.read(cell, standing) {
+                Some(value) => {
+                    *self = Transaction::Open(log);
+                    Ok(value)
+                }
+                None => {
+                    *self = Transaction::Closed;
+                    Err(Refusal::Full)
+                }
+            },
+        }
+    }
+
+    // Writes the cell for the transaction's own card.
+    pub(crate) fn write(&mut self, cell: u8, value: u16) -> Result<(), Refusal>
+        ensures { λ r. ⌜ (r, tx-in (now (self .exit))) ≡ own-write (tx-in (now (self .entry))) cell value ⌝ }
+    {
+        match *self {
+            Transaction::Closed => Err(Refusal::NoTransaction),
+            Transaction::Doomed => {
+                *self = Transaction::Closed;
+                Err(Refusal::Doomed)
+            }
+            Transaction::Open(mut log) => {
+                if !log.record(cell, value) {
+                    *self = Transaction::Closed;
+                    return Err(Refusal::Full);
+                }
+                *self = Transaction::Open(log);
+                Ok(())
+            }
+        }
+    }
+
     // Whether an access of the cell by another card dooms the transaction.
     pub(crate) fn conflicts(&self, how: Access, cell: usize) -> bool
         ensures { λ r. ⌜ r ≡ conflicts how cell (tx-in (now (self .entry))) ⌝ }
