@@ -30,7 +30,8 @@ use Rattle.door.specs.Door.{DoorState, Reply, no-memo, new-memo, new-door, memo
 use Rattle.door.specs.Door.{resent}
 use Rattle.door.specs.Door.{served, noted, judged, asked, passed, called}
 use Rattle.board.specs.Book.{Book, Place, Sum, lined, summed, step-deed, after, new-book, fed-from, fed}
-use Rattle.board.specs.Promise.{Within, Never-8, Stands, cells-of}
+use Rattle.board.specs.Promise.{Never-8, Stands, cells-of}
+use Rattle.board.proofs.Ranges.{Within}
 use Rattle.board.proofs.Cells.{clash}
 use Rattle.board.proofs.Held.{in-tx, has-written, Agrees}
 use Rattle.board.proofs.Sound.{Sound}

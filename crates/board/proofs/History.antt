@@ -11,8 +11,9 @@ use Rattle.door.specs.declared.fault.DoorFault.{DoorFault}
 use Rattle.door.specs.declared.call.Call.{Call}
 use Rattle.door.specs.Door.{DoorState, called, new-door, ran}
 use Rattle.board.specs.Book.{Book, Place, after, new-book, fed-from, fed, Follows}
-use Rattle.board.specs.Promise.{Within, Stands, Untouched, Never-8, cells-of}
-use Rattle.board.specs.History.{cells-in, Stands-after, Carries, Carries-all, Stands-throughout, nodes-of, Lines-up}
+use Rattle.board.specs.Promise.{Stands, Untouched, Never-8, cells-of}
+use Rattle.board.proofs.Ranges.{Within}
+use Rattle.board.specs.History.{cells-in, Stands-after, Carries, Carries-all, Carried-throughout, nodes-of, Lines-up}
 use Rattle.board.proofs.Book.{board-after, whole, promised, never}
 use Rattle.board.proofs.Untouched.{untouched}
 use Rattle.board.proofs.Walks.{line-is-walked}
@@ -66,16 +67,22 @@ module _ (z : Size) (W : Within z) where
             (never z W cs k);
       }
 
+  -- every state on the way of a list of calls, and every call of it
+  pub throughout : (cs ks : List Call) → Carried-throughout z cs ks
+  throughout cs ks = record {
+    stands = λ before rest _ s f. stands-after (cs ++ before) s f .stands;
+    carried = λ before k rest _ s t r f e. carries k s t r e (cs ++ before) f;
+  }
+
   -- a list of calls
   pub carries-all : (ks : List Call) (s t : DoorState) → t ≡ ran z s ks → Carries-all z ks s t
   unfolding fed
-  carries-all ks s t e cs f = stands-after (cs ++ ks) t
-      (ap (λ (b : Book). b .board) (fed-append z new-book cs ks) ∙ ran-fed z (fed z cs) ks
-      ∙ ap (λ (x : DoorState). ran z x ks) f ∙ sym e)
-
-  -- before the first call and after each
-  pub throughout : (cs : List Call) → Stands-throughout z cs
-  throughout cs before rest e = promised z W before
+  carries-all ks s t e cs f = (
+    stands-after (cs ++ ks) t
+        (ap (λ (b : Book). b .board) (fed-append z new-book cs ks) ∙ ran-fed z (fed z cs) ks
+        ∙ ap (λ (x : DoorState). ran z x ks) f ∙ sym e),
+    throughout cs ks,
+  )
 
   -- the line call
   pub lines-up : (s : DoorState) (place : List ℕ) (count : ℕ)

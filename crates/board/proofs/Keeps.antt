@@ -43,7 +43,7 @@ use Rattle.door.specs.declared.request.Request.the-variants.{Enter, Leave, Add,
 use Rattle.door.specs.Door.{same}
 use Rattle.door.specs.Door.{served}
 use Rattle.board.specs.Book.{Place, Sum, plain, deed, deed-by, accepted, lined, summed, step-deed}
-use Rattle.board.specs.Promise.{Within}
+use Rattle.board.proofs.Ranges.{Within}
 use Rattle.board.proofs.Cells.{at, at-all, clash}
 use Rattle.board.proofs.Views.{view, link, joined, reader}
 use Rattle.board.proofs.Chain.{Line, In, chain-joined}

@@ -1,3 +1,4 @@
+pub mod Ranges
 pub mod Cells
 pub mod Views
 pub mod Chain

@@ -2,7 +2,8 @@
 use Rattle.lock.specs.Lock.{Size}
 use Rattle.door.specs.declared.call.Call.{Call}
 use Rattle.board.specs.Book.{Book, after}
-use Rattle.board.specs.Promise.{cells-of, Within, Stands}
+use Rattle.board.specs.Promise.{cells-of, Stands}
+use Rattle.board.proofs.Ranges.{Within}
 use Rattle.board.proofs.Inv.{Inv}
 use Rattle.board.proofs.Stands.{line-stands, inside-stands}
 use Rattle.board.proofs.Wakes.{wakes-stand}

@@ -14,7 +14,7 @@ use Rattle.door.specs.Doors.{set-up}
 use Rattle.lock.specs.declared.sizes.Sizes.{Sizes}
 use Rattle.lock.specs.Locks.{size-of}
 use Rattle.board.specs.Boards.{played}
-use Rattle.board.specs.Promise.{Within}
+use Rattle.board.proofs.Ranges.{Within}
 
 -- the sizes of the type are those of a board that can be set up
 pub within-of : (z : Sizes) → Within (size-of z)

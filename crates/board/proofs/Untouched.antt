@@ -40,7 +40,8 @@ use Rattle.door.specs.declared.call.Call.{Call}
 use Rattle.door.specs.declared.call.Call.the-variants as call
 use Rattle.door.specs.Door.{called, served}
 use Rattle.board.specs.Book.{Book, after}
-use Rattle.board.specs.Promise.{cells-of, Within, Untouched}
+use Rattle.board.specs.Promise.{cells-of, Untouched}
+use Rattle.board.proofs.Ranges.{Within}
 use Rattle.board.proofs.Views.{view, link}
 use Rattle.board.proofs.Held.{in-tx}
 use Rattle.board.proofs.Inv.{cards-of, Inv}

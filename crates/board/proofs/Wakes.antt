@@ -36,7 +36,8 @@ use Rattle.door.specs.declared.call.Call.the-variants as call
 use Rattle.door.specs.Door.{called, served}
 use Rattle.board.specs.Book.{Book, Place, after, fed-from}
 use Rattle.board.specs.Promise as promise
-use Rattle.board.specs.Promise.{cells-of, stage, Within, No-step, Wakes-next, Wakes, Waits, Wakes-stand}
+use Rattle.board.specs.Promise.{cells-of, stage, No-step, Wakes-next, Wakes, Waits, Wakes-stand}
+use Rattle.board.proofs.Ranges.{Within}
 use Rattle.board.proofs.Cells.{at-same, clash, state, spin}
 use Rattle.board.proofs.Views.{link-node, View, view, node, link, joined, reader, active, target, hand, granted, Cells}
 use Rattle.board.proofs.Chain.{Chain, Baton, chain-behind}

@@ -25,7 +25,7 @@ use Rattle.stages.specs.declared.stage.Card.{Card}
 use Rattle.lock.specs.Lock.{Size, idle-card, stage-of}
 use Rattle.lock.specs.Lines.{line-link, seen, behind, points, has-ahead, leads, first-link, walk, nodes-in-line}
 use Rattle.board.specs.Book.{Book, Place}
-use Rattle.board.specs.Promise.{Within}
+use Rattle.board.proofs.Ranges.{Within}
 use Rattle.board.proofs.Cells.{clash, next}
 use Rattle.board.proofs.Views.{link-node, View, view, node, link, joined}
 use Rattle.board.proofs.Chain.{Spot, End, Chain, In, Once, chain-pred, chain-behind, chain-joined}

@@ -1,4 +1,4 @@
--- The book: a second record of every run, kept by the published rules alone.
+-- The book: a second record of every run, kept by the rules of the memory, the lock and the door alone.
 -- It takes nothing from a board or its memory. It is fed the same calls, with their arguments alone, and keeps a
 -- meaning, stages and remembered requests of its own; and beside them the line, the finished adds and what was asked.
 use mathlib.Core.Bool.{Bool, true, false, cond}
@@ -45,6 +45,7 @@ pub record Sum : Type 0 where
   pub counter : ℕ
   pub amount : ℕ
 
+-- what the book keeps
 pub record Book : Type 0 where
   -- a meaning, stages and remembered requests of its own
   pub board : DoorState
@@ -69,6 +70,7 @@ pub data Deed : Type 0 where
   parts : Deed
   finishes : ℕ → ℕ → Deed
 
+-- the deed of each row: the commits of W5 and R7 join, those of X4 and Y7 take out, the store of A2 finishes an add
 abbrev pub deed : Stage → Deed
 deed Idle = plain
 deed (WriterEnters n W1) = plain
@@ -108,7 +110,7 @@ deed (ReaderLeaves n (Y6 p t)) = plain
 deed (ReaderLeaves n (Y7 p t s)) = parts
 deed (ReaderLeaves n (Y8 t)) = plain
 
--- the line without the place of a card
+-- the line without the place of a card; a card has one place at most, and it has the card's node
 abbrev pub without : ℕ → List Place → List Place
 without c [] = []
 without c (p ∷ l) = cond (eqb (p .card) c) l (p ∷ without c l)

@@ -13,11 +13,11 @@ use Rattle.lock.specs.Lock.{Size}
 use Rattle.lock.specs.Lines.{placed}
 use Rattle.door.specs.declared.fault.DoorFault.{DoorFault}
 use Rattle.door.specs.declared.call.Call.{Call}
-use Rattle.door.specs.Door.{DoorState}
+use Rattle.door.specs.Door.{DoorState, called}
 use Rattle.door.specs.Doors.{door-state, door-size}
 use Rattle.board.specs.declared.board.Board.{Board}
 use Rattle.board.specs.Book.{Place, fed, Follows}
-use Rattle.board.specs.Promise.{Stands, Untouched, Never-8, cells-of}
+use Rattle.board.specs.Promise.{Stands, Untouched, Never-8}
 
 -- a board's state and its sizes
 abbrev pub board-state : {X : Type 0} → (X → Meaning) → Board X → DoorState
@@ -45,14 +45,21 @@ pub record Carried (z : Size) (k : Call) (cs : List Call) (s t : DoorState) (r :
 abbrev pub Carries : Size → Call → DoorState → DoorState → Result Answer DoorFault → Type 0
 Carries z k s t r = (cs : List Call) → Follows z cs s → Carried z k cs s t r
 
--- the same for a list of calls, refused ones included
-abbrev pub Carries-all : Size → List Call → DoorState → DoorState → Type 0
-Carries-all z ks s t = (cs : List Call) → Follows z cs s → Stands-after z (cs ++ ks) t
+-- The calls ks, refused ones included, were made in turn on a board that had followed the calls cs. Of every state s
+-- that
+-- the board was in before the first of them or after one of them, and of every one of them:
+pub record Carried-throughout (z : Size) (cs ks : List Call) : Type 0 where
+  -- the promise stands in the board's memory
+  pub stands : (before rest : List Call) → ks ≡ before ++ rest → (s : DoorState) → Follows z (cs ++ before) s
+      → Stands z (cells-in s) (fed z (cs ++ before))
+  -- the call changes no cell of a node that is free before and after it, and is not refused by the memory
+  pub carried : (before : List Call) (k : Call) (rest : List Call) → ks ≡ before ++ k ∷ rest → (s t : DoorState)
+      → (r : Result Answer DoorFault) → Follows z (cs ++ before) s → (r, t) ≡ called z s k
+      → Carried z k (cs ++ before) s t r
 
--- before the first call of a list and after each, by the book
-abbrev pub Stands-throughout : Size → List Call → Type 0
-Stands-throughout z cs = (before rest : List Call) → cs ≡ before ++ rest
-    → Stands z (cells-of (fed z before)) (fed z before)
+-- a list of calls took a board from state s to state t, for every history that the board may have followed
+abbrev pub Carries-all : Size → List Call → DoorState → DoorState → Type 0
+Carries-all z ks s t = (cs : List Call) → Follows z cs s → Stands-after z (cs ++ ks) t × Carried-throughout z cs ks
 
 -- the nodes of the book's line
 abbrev pub nodes-of : List Place → List ℕ

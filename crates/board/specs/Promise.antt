@@ -3,7 +3,7 @@ use mathlib.Core.Bool.{true, cond}
 use mathlib.Core.List.{List, [], _∷_, _++_}
 use mathlib.Core.Logic.{_⊎_}
 use mathlib.Core.Path.{_≡_}
-use Prim.Native.Nat.{ℕ, _+_, _≤_, _<_, min}
+use Prim.Native.Nat.{ℕ, _+_, _<_, min}
 use lib.Dec.{eqb}
 use lib.ListN.{getD}
 use Rattle.std.specs.declared.result.Result.{Result}
@@ -96,7 +96,9 @@ No-step d (call.Step c ∷ cs) = (c ≡ d → ⊥) × No-step d cs
 No-step d (call.Abort c ∷ cs) = No-step d cs
 No-step d (call.Reuse c n v ∷ cs) = No-step d cs
 
--- whatever is called before it, card d's next step leaves node n's spin at 0
+-- whatever is called before it, card d's next step leaves node n's spin at 0; the cells are the book's, and a board
+-- that
+-- has followed the same calls has the same
 abbrev pub Wakes-next : Size → Book → ℕ → ℕ → Type 0
 Wakes-next z b d n = (cs : List Call) → No-step d cs
     → at (cells-of (after z (fed-from z b cs) (call.Step d))) (node-cell n Spin) ≡ 0
@@ -213,9 +215,3 @@ Untouched z k old new b d = No-reuse k → (n : ℕ) → n < z .nodes → Free b
 abbrev pub Never-8 : Result Answer DoorFault → Type 0
 Never-8 (Ok a) = Unit {0}
 Never-8 (Err f) = number f ≡ 8 → ⊥
-
--- sizes of a board that can be set up
-pub record Within (z : Size) : Type 0 where
-  pub cards : z .cards ≤ 8
-  pub nodes : z .nodes ≤ 32
-  pub counters : z .counters ≤ 8

@@ -3,7 +3,7 @@ ghost use mathlib.Core.Path.{_≡_};
 ghost use mathlib.Core.List.{[]};
 ghost use Rattle.std.specs.Results.{Cases};
 ghost use Rattle.door.specs.Doors.{set-up};
-ghost use Rattle.board.specs.History.{board-state, board-size, Stands-after, Stands-throughout};
+ghost use Rattle.board.specs.History.{board-state, board-size, Stands-after, Carried-throughout};
 ghost use Rattle.board.specs.Boards.{given-by, played};
 use crate::board::Board;
 use door::call::Call;
@@ -35,7 +35,7 @@ impl<M: Memory> Board<M> {
         ensures gives { λ r. ⌜ given-by meaning r ≡ played memory cards nodes counters (now (calls .entry)) ⌝ }
         ensures promise { λ r. ⌜ Cases r
             (λ b. Stands-after (board-size b) (now (calls .entry)) (board-state meaning b)
-            × Stands-throughout (board-size b) (now (calls .entry))) (λ _. Unit {0}) ⌝ }
+            × Carried-throughout (board-size b) [] (now (calls .entry))) (λ _. Unit {0}) ⌝ }
     {
         match Board::set_up(memory, cards, nodes, counters) {
             Ok(mut board) => {

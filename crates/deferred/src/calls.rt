@@ -118,8 +118,7 @@ pub impl Memory for Deferred as DeferredMemory {
     }
 
     fn look(&self, cell: usize) -> Result<u16, MemoryFault> {
-        check_range(0, cell)?;
-        Ok(self.cells[cell])
+        self.held(cell)
     }
 
     fn load(&mut self, card: usize, cell: usize) -> Result<u16, MemoryFault> {

@@ -31,7 +31,8 @@ lines-push : (line : ℕ) (done : List Event) (e : Event)
 lines-push line [] e = append-nil (eventLine line e) ∙ ap (λ k. eventLine k e) (sym (add-zero line))
 lines-push line (x ∷ done) e =
     let at : line + 1 + length done ≡ line + suc (length done) = omega arith in
-    ap (λ l. eventLine line x ++ l) (lines-push (line + 1) done e ∙ ap (λ k. eventLines (line + 1) done ++ eventLine k e) at)
+    ap (λ l. eventLine line x ++ l)
+    (lines-push (line + 1) done e ∙ ap (λ k. eventLines (line + 1) done ++ eventLine k e) at)
     ∙ sym (append-assoc (eventLine line x) (eventLines (line + 1) done) (eventLine (line + suc (length done)) e))
 
 -- one piece
@@ -39,7 +40,8 @@ pub pushed : (first one x a : List ℕ) → one ≡ first ++ x → x ≡ a → o
 pushed first one x a p q = p ∙ ap (λ l. first ++ l) q
 
 -- two pieces, one after the other
-pub opening : (first one two x y a b : List ℕ) → one ≡ first ++ x → x ≡ a → two ≡ one ++ y → y ≡ b → two ≡ first ++ (a ++ b)
+pub opening : (first one two x y a b : List ℕ) → one ≡ first ++ x → x ≡ a → two ≡ one ++ y → y ≡ b
+    → two ≡ first ++ (a ++ b)
 opening first one two x y a b p q r s =
     r ∙ (λ i. (p ∙ ap (λ l. first ++ l) q) i ++ s i) ∙ append-assoc first a b
 
@@ -54,7 +56,8 @@ fails start bs now told (Ok u) f e is b = absurd e
 fails start bs now told (Err g) f e is b = subst (λ h. Tells start bs now (Err h)) (sym e) (told, is, b)
 
 -- want of memory is passed on
-pub fails-memory : (start bs now : List ℕ) (r : Result (Unit {0}) ReadFault) → ErrBy r (λ y. y ≡ Memory) → Tells start bs now r
+pub fails-memory : (start bs now : List ℕ) (r : Result (Unit {0}) ReadFault) → ErrBy r (λ y. y ≡ Memory)
+    → Tells start bs now r
 fails-memory start bs now (Ok u) e = absurd e
 fails-memory start bs now (Err g) e = subst (λ h. Tells start bs now (Err h)) (sym e) tt
 
@@ -64,7 +67,8 @@ before-sizes bs TooLong t = long t
 before-sizes bs (BadLine line) t = unsized line (t .0) (t .1) (t .2)
 
 -- the sizes are told where the count is at fault
-pub before-count : (bs head : List ℕ) (s : SizeLines) (f : FormFault) → length bs ≤ 65535 → SizeSection bs s head → f ≡ BadLine 5
+pub before-count : (bs head : List ℕ) (s : SizeLines) (f : FormFault) → length bs ≤ 65535 → SizeSection bs s head
+    → f ≡ BadLine 5
     → ((n : ℕ) (after : List ℕ) → n ≤ 2000 → NumberLine head n after → ⊥) → Before bs (sizesLine s) f
 before-count bs head s f short section is none =
     subst (Before bs (sizesLine s)) (sym is) (uncounted s head short section (count-stops bs head s section none))
@@ -89,7 +93,8 @@ telling-none bs start head body s count section few counted = record {
 
 module _ {bs start now : List ℕ} {count index : ℕ} {rest : List ℕ} (t : Telling bs start now count index rest) where
   pub telling-more : (next piece after : List ℕ) (line : ℕ) (e : Event) → index < count → EventLine rest e after
-      → next ≡ now ++ piece → piece ≡ eventLine line e → line ≡ 6 + index → Telling bs start next count (index + 1) after
+      → next ≡ now ++ piece → piece ≡ eventLine line e → line ≡ 6 + index
+      → Telling bs start next count (index + 1) after
   telling-more next piece after line e lt h pushed is at =
       let reached = t .reached in
       let here : line ≡ 6 + length (t .done) = omega arith in
@@ -107,7 +112,8 @@ module _ {bs start now : List ℕ} {count index : ℕ} {rest : List ℕ} (t : Te
       (opened : start ≡ first ++ (sizesLine s ++ countLine count)) where
     progress-here : Progress bs s count (t .done) rest
     progress-here =
-        subst (λ x. Progress bs x count (t .done) rest) (same-sizes bs _ head (t .sizes) s (t .progress .section) section) (t .progress)
+        subst (λ x. Progress bs x count (t .done) rest)
+        (same-sizes bs _ head (t .sizes) s (t .progress .section) section) (t .progress)
 
     all-told : now ≡ first ++ (sizesLine s ++ (countLine count ++ eventLines 6 (t .done)))
     all-told =

@@ -8,4 +8,5 @@ use Rattle.textline.specs.declared.events.SizeLines.{SizeLines}
 -- `3`, the sizes and the count of events, each with its line end
 abbrev pub headText : SizeLines → ℕ → List ℕ
 headText s count =
-    codes "3\n" ++ (decimal (s .cards) ++ (10 ∷ (decimal (s .nodes) ++ (10 ∷ (decimal (s .counters) ++ (10 ∷ (decimal count ++ (10 ∷ []))))))))
+    codes "3\n" ++ (decimal (s .cards) ++ (10 ∷ (decimal (s .nodes) ++
+    (10 ∷ (decimal (s .counters) ++ (10 ∷ (decimal count ++ (10 ∷ []))))))))

@@ -21,18 +21,21 @@ eventWords (Add card toggle counter amount) =
     ++ (decimal card ++ (codes " toggle " ++ (decimal toggle
     ++ (codes " counter " ++ (decimal counter ++ (codes " amount " ++ decimal amount))))))
 eventWords (Show card toggle counter) =
-    codes "show card " ++ (decimal card ++ (codes " toggle " ++ (decimal toggle ++ (codes " counter " ++ decimal counter))))
+    codes "show card " ++ (decimal card ++ (codes " toggle " ++
+    (decimal toggle ++ (codes " counter " ++ decimal counter))))
 eventWords (Step card) = codes "step card " ++ decimal card
 eventWords (Abort card) = codes "abort card " ++ decimal card
 eventWords (Reuse card node next prev state spin) =
     codes "reuse card "
     ++ (decimal card ++ (codes " node " ++ (decimal node ++ (codes " next " ++ (decimal next
-    ++ (codes " prev " ++ (decimal prev ++ (codes " state " ++ (decimal state ++ (codes " spin " ++ decimal spin))))))))))
+    ++ (codes " prev " ++ (decimal prev ++ (codes " state " ++
+    (decimal state ++ (codes " spin " ++ decimal spin))))))))))
 
 -- `sizes` and the cards, nodes and counters
 abbrev pub sizesLine : SizeLines → List ℕ
 sizesLine s =
-    codes "sizes " ++ (decimal (s .cards) ++ (codes " " ++ (decimal (s .nodes) ++ (codes " " ++ (decimal (s .counters) ++ (10 ∷ []))))))
+    codes "sizes " ++ (decimal (s .cards) ++ (codes " " ++ (decimal (s .nodes) ++
+    (codes " " ++ (decimal (s .counters) ++ (10 ∷ []))))))
 
 -- `events` and how many there are to be
 abbrev pub countLine : ℕ → List ℕ

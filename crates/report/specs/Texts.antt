@@ -34,7 +34,8 @@ words (Err Differs) = codes "refused 4"
 words (Err (Lock NotAllowed)) = codes "refused 5"
 words (Err (Lock NoPlace)) = codes "refused 6"
 words (Err (Lock NotFree)) = codes "refused 7"
-words (Err (Lock (Memory f))) = codes "refused 8 " ++ (decimal (memory.number (f .refusal)) ++ (codes " " ++ decimal (f .cell)))
+words (Err (Lock (Memory f))) =
+    codes "refused 8 " ++ (decimal (memory.number (f .refusal)) ++ (codes " " ++ decimal (f .cell)))
 
 -- the number of an event and its answer, one space between them
 abbrev pub answerLine : ℕ → Result Answer DoorFault → List ℕ

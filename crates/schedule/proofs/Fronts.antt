@@ -32,7 +32,8 @@ no-ends s es h =
             no-end-decimal (s .counters) (h .sizes .1 .1 .0),
             (
               no-end-decimal (length es) count,
-              all-map NoEnd written es (all-weaker (λ e. Small (numbersOf e)) (λ e. NoEnd (written e)) no-end-written es (h .events)),
+              all-map NoEnd written es
+                  (all-weaker (λ e. Small (numbersOf e)) (λ e. NoEnd (written e)) no-end-written es (h .events)),
             ),
           ),
         ),
@@ -100,7 +101,8 @@ next-of {bs} {done} {rest} s es after b sound lt e =
     let L = linesOf s es in
     let n = length done in
     let long = length-take-le (n + 1) L (omega arith) in
-    let k = peel done (take (n + 1) L) rest after (b .lines) (all-take NoEnd (n + 1) L (no-ends s es sound)) (omega arith)
+    let k = peel done (take (n + 1) L) rest after (b .lines) (all-take NoEnd (n + 1) L (no-ends s es sound))
+    (omega arith)
     (sym (b .whole) ∙ e) in
     (sym (take-take n (n + 1) L (omega arith)) ∙ k .0, k .1 ∙ one-line L n after lt)
 
@@ -121,7 +123,8 @@ fits-next {bs} {done} {rest} b f =
     }
 
 -- the next line is the first at which the text stops to be that of a schedule
-pub stops : {bs : List ℕ} {done : List (List ℕ)} {rest : List ℕ} (line : ℕ) → line ≡ length done + 1 → Begun bs done rest
+pub stops : {bs : List ℕ} {done : List (List ℕ)} {rest : List ℕ} (line : ℕ) → line ≡ length done + 1
+    → Begun bs done rest
     → Fits (length done) bs → (Next done rest → ⊥) → StopsAt line bs
 stops {bs} {done} {rest} line is b f none =
     record { before = length done; next = is; fits = f; none = λ g. none (fits-next b g) }
@@ -131,7 +134,8 @@ pub same-number : (bs a b : List ℕ) (n m : ℕ) → NumberLine bs n a → Numb
 same-number bs a b n m p q =
     let x = p .small in
     let y = q .small in
-    let cut = one-cut (decimal n) a (decimal m) b (no-end-decimal n x) (no-end-decimal m y) (sym (p .whole) ∙ q .whole) in
+    let cut = one-cut (decimal n) a (decimal m) b (no-end-decimal n x) (no-end-decimal m y)
+    (sym (p .whole) ∙ q .whole) in
     (same-from-decimal n m (omega arith) (omega arith) (cut .0), cut .1)
 
 -- a text of no bytes

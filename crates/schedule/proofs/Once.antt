@@ -106,7 +106,8 @@ one-rendering s t es fs p q e =
     let qk = q .sizes .1 .1 .0 in
     let cards = same-from-decimal (s .cards) (t .cards) (omega arith) (omega arith) (ap (λ l. getD l 1 []) lines) in
     let nodes = same-from-decimal (s .nodes) (t .nodes) (omega arith) (omega arith) (ap (λ l. getD l 2 []) lines) in
-    let counters = same-from-decimal (s .counters) (t .counters) (omega arith) (omega arith) (ap (λ l. getD l 3 []) lines) in
+    let counters = same-from-decimal (s .counters) (t .counters) (omega arith) (omega arith)
+    (ap (λ l. getD l 3 []) lines) in
     let written-same : map written es ≡ map written fs = cc in (
       (λ i. record { cards = cards i; nodes = nodes i; counters = counters i }),
       same-events es fs (p .events) (q .events) written-same,

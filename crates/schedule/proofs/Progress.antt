@@ -61,7 +61,8 @@ same-sizes bs a b s t p q =
     let qk = q .small .1 .1 .0 in
     let cards = same-from-decimal (t .cards) (s .cards) (omega arith) (omega arith) (ap (λ l. getD l 1 []) same) in
     let nodes = same-from-decimal (t .nodes) (s .nodes) (omega arith) (omega arith) (ap (λ l. getD l 2 []) same) in
-    let counters = same-from-decimal (t .counters) (s .counters) (omega arith) (omega arith) (ap (λ l. getD l 3 []) same) in
+    let counters = same-from-decimal (t .counters) (s .counters) (omega arith) (omega arith)
+    (ap (λ l. getD l 3 []) same) in
     (λ i. record { cards = sym cards i; nodes = sym nodes i; counters = sym counters i })
 
 -- the count is read
@@ -75,12 +76,15 @@ progress-none bs head body s count section few counted = record {
   counted = counted;
   within = omega arith;
   events = tt;
-  begun = begun-more (decimal count) body (begun-sizes bs head s section) (no-end-decimal count (counted .small)) (counted .whole);
+  begun = begun-more (decimal count) body (begun-sizes bs head s section) (no-end-decimal count (counted .small))
+      (counted .whole);
 }
 
 -- an event more is read
-pub progress-more : {bs : List ℕ} {s : SizeLines} {count : ℕ} {done : List Event} {rest : List ℕ} (e : Event) (after : List ℕ)
-    → Progress bs s count done rest → length done < count → EventLine rest e after → Progress bs s count (done ++ e ∷ []) after
+pub progress-more : {bs : List ℕ} {s : SizeLines} {count : ℕ} {done : List Event} {rest : List ℕ} (e : Event)
+    (after : List ℕ)
+    → Progress bs s count done rest → length done < count → EventLine rest e after
+    → Progress bs s count (done ++ e ∷ []) after
 progress-more {bs} {s} {count} {done} {rest} e after p lt line = record {
   head = p .head;
   body = p .body;
@@ -89,7 +93,7 @@ progress-more {bs} {s} {count} {done} {rest} e after p lt line = record {
   counted = p .counted;
   within = omega (arith, length-push done e);
   events = all-push (λ x. Small (numbersOf x)) done e (p .events) (line .small);
-  begun = subst (λ l. Begun bs l after) (ap (λ l. decimal 3 ∷ decimal (s .cards) ∷ decimal (s .nodes) ∷ decimal (s .counters) ∷ decimal count ∷ l) (sym (map-append written done (e ∷ []))))
+  begun = subst (λ l. Begun bs (sizesOf s ++ (decimal count ∷ l)) after) (sym (map-append written done (e ∷ [])))
       (begun-more (written e) after (p .begun) (no-end-written e (line .small)) (line .whole));
 }
 
@@ -100,7 +104,8 @@ text-split (l ∷ ls) (suc k) =
     ap (λ x. l ++ (10 ∷ x)) (text-split ls k) ∙ sym (append-assoc l (10 ∷ textOf (take k ls)) (textOf (drop k ls)))
 
 -- a rendering begins with any number of its lines
-renders-fits : (bs : List ℕ) (s : SizeLines) (es : List Event) (k : ℕ) → Renders bs s es → k ≤ length (linesOf s es) → Fits k bs
+renders-fits : (bs : List ℕ) (s : SizeLines) (es : List Event) (k : ℕ) → Renders bs s es → k ≤ length (linesOf s es)
+    → Fits k bs
 renders-fits bs s es k r le = record {
   sizes = s;
   events = es;
@@ -154,14 +159,16 @@ take-front s count done more is =
     ∙ take-at (map written done) (map written more) (length (map written done)) refl in
     (λ i. decimal 3 ∷ decimal (s .cards) ∷ decimal (s .nodes) ∷ decimal (s .counters) ∷ decimal (is i) ∷ events i)
 
-module _ {bs : List ℕ} {s : SizeLines} {count : ℕ} {done : List Event} {rest : List ℕ} (p : Progress bs s count done rest) where
+module _ {bs : List ℕ} {s : SizeLines} {count : ℕ} {done : List Event} {rest : List ℕ}
+    (p : Progress bs s count done rest) where
   -- the lines so far are those of a schedule, whatever events are still to come
   fits-done : Fits (length (frontOf s count done)) bs
   fits-done =
       let few = p .few in
       let within = p .within in
       let more = replicate (count - length done) (Step 0) in
-      let long : length (done ++ more) ≡ count = omega (arith, length-append done more, length-replicate (count - length done) (Step 0)) in
+      let long : length (done ++ more) ≡ count =
+      omega (arith, length-append done more, length-replicate (count - length done) (Step 0)) in
       record {
         sizes = s;
         events = done ++ more;
@@ -169,7 +176,8 @@ module _ {bs : List ℕ} {s : SizeLines} {count : ℕ} {done : List Event} {rest
         sound = record {
           sizes = p .section .small;
           few = omega arith;
-          events = all-append (λ e. Small (numbersOf e)) done more (p .events) (all-same (λ e. Small (numbersOf e)) (count - length done) (Step 0) (omega arith, tt));
+          events = all-append (λ e. Small (numbersOf e)) done more (p .events)
+              (all-same (λ e. Small (numbersOf e)) (count - length done) (Step 0) (omega arith, tt));
         };
         enough = omega (arith, length-map done written, length-map (done ++ more) written);
         whole = p .begun .whole ∙ ap (λ l. textOf l ++ rest) (sym (take-front s count done more long));
@@ -206,7 +214,9 @@ module _ {bs : List ℕ} {s : SizeLines} {count : ℕ} {done : List Event} {rest
   pub end-stops : length done ≡ count → StopsAt (6 + count) bs
   end-stops is =
       stops (6 + count) (omega (arith, length-map done written)) (p .begun) fits-done
-      (λ x. let more = x .enough in omega (arith, length-map done written, length-map (x .events) written, next-count x))
+      (λ x.
+      let more = x .enough in
+      omega (arith, length-map done written, length-map (x .events) written, next-count x))
 
   -- what is left then is in no rendering
   pub end-none : length done ≡ count → (rest ≡ [] → ⊥) → RendersNone bs
@@ -214,7 +224,8 @@ module _ {bs : List ℕ} {s : SizeLines} {count : ℕ} {done : List Event} {rest
       let same = same-count bs (p .head) (p .body) s t count fs (p .section) (p .counted) r in
       let m = length-map done written in
       let n = length-map fs written in
-      let k = peel (frontOf s count done) (linesOf t fs) rest [] (p .begun .lines) (no-ends t fs (r .sound)) (omega arith)
+      let k = peel (frontOf s count done) (linesOf t fs) rest [] (p .begun .lines) (no-ends t fs (r .sound))
+      (omega arith)
       (sym (p .begun .whole) ∙ r .text ∙ sym (append-nil (textOf (linesOf t fs)))) in
       some (k .1 ∙ ap (λ l. textOf l ++ []) (drop-all (length (frontOf s count done)) (linesOf t fs) (omega arith)))
 
@@ -224,6 +235,7 @@ module _ {bs : List ℕ} {s : SizeLines} {count : ℕ} {done : List Event} {rest
       let few = p .few in
       record {
         sound = record { sizes = p .section .small; few = omega arith; events = p .events };
-        text = p .begun .whole ∙ ap (λ l. textOf (frontOf s count done) ++ l) none ∙ append-nil (textOf (frontOf s count done))
+        text = p .begun .whole ∙ ap (λ l. textOf (frontOf s count done) ++ l) none
+            ∙ append-nil (textOf (frontOf s count done))
             ∙ ap (λ n. textOf (frontOf s n done)) (sym is);
       }

@@ -42,7 +42,8 @@ front bs rest c n k lines small le e = record {
 -- the first line is not `3`
 pub stops-1 : (bs : List ℕ) → ((after : List ℕ) → NumberLine bs 3 after → ⊥) → StopsAt 1 bs
 stops-1 bs none =
-    stops {done = []} 1 (omega arith) (begun-none bs) (front bs bs 0 0 0 0 (omega arith, (omega arith, (omega arith, tt))) (omega arith) refl)
+    stops {done = []} 1 (omega arith) (begun-none bs)
+    (front bs bs 0 0 0 0 (omega arith, (omega arith, (omega arith, tt))) (omega arith) refl)
     (λ x. none (x .after) (record { small = omega arith; whole = x .goes }))
 
 -- the first line is the line of another number
@@ -56,7 +57,8 @@ module _ (bs r₁ : List ℕ) (h₁ : NumberLine bs 3 r₁) where
   -- the cards are missing
   pub stops-2 : NoNumber r₁ → StopsAt 2 bs
   stops-2 none =
-      stops 2 (omega arith) begun-1 (front bs r₁ 0 0 0 1 (omega arith, (omega arith, (omega arith, tt))) (omega arith) (begun-1 .whole))
+      stops 2 (omega arith) begun-1
+      (front bs r₁ 0 0 0 1 (omega arith, (omega arith, (omega arith, tt))) (omega arith) (begun-1 .whole))
       (λ x. none (x .sizes .cards) (x .after) (record { small = x .sound .sizes .0; whole = x .goes }))
 
   module _ (c : ℕ) (r₂ : List ℕ) (h₂ : NumberLine r₁ c r₂) where
@@ -66,7 +68,8 @@ module _ (bs r₁ : List ℕ) (h₁ : NumberLine bs 3 r₁) where
     -- the nodes are missing
     pub stops-3 : NoNumber r₂ → StopsAt 3 bs
     stops-3 none =
-        stops 3 (omega arith) begun-2 (front bs r₂ c 0 0 2 (h₂ .small, (omega arith, (omega arith, tt))) (omega arith) (begun-2 .whole))
+        stops 3 (omega arith) begun-2
+        (front bs r₂ c 0 0 2 (h₂ .small, (omega arith, (omega arith, tt))) (omega arith) (begun-2 .whole))
         (λ x. none (x .sizes .nodes) (x .after) (record { small = x .sound .sizes .1 .0; whole = x .goes }))
 
     module _ (n : ℕ) (r₃ : List ℕ) (h₃ : NumberLine r₂ n r₃) where
@@ -76,7 +79,8 @@ module _ (bs r₁ : List ℕ) (h₁ : NumberLine bs 3 r₁) where
       -- the counters are missing
       pub stops-4 : NoNumber r₃ → StopsAt 4 bs
       stops-4 none =
-          stops 4 (omega arith) begun-3 (front bs r₃ c n 0 3 (h₂ .small, (h₃ .small, (omega arith, tt))) (omega arith) (begun-3 .whole))
+          stops 4 (omega arith) begun-3
+          (front bs r₃ c n 0 3 (h₂ .small, (h₃ .small, (omega arith, tt))) (omega arith) (begun-3 .whole))
           (λ x. none (x .sizes .counters) (x .after) (record { small = x .sound .sizes .1 .1 .0; whole = x .goes }))
 
       -- all four lines are there

@@ -46,7 +46,8 @@ RendersNone bs = (s : SizeLines) (es : List Event) → Renders bs s es → ⊥
 -- two schedules that differ never have one text
 abbrev pub OneRendering : Type 0
 OneRendering =
-    (s t : SizeLines) (es fs : List Event) → Sound s es → Sound t fs → rendered s es ≡ rendered t fs → (s ≡ t) × (es ≡ fs)
+    (s t : SizeLines) (es fs : List Event) → Sound s es → Sound t fs → rendered s es ≡ rendered t fs
+    → (s ≡ t) × (es ≡ fs)
 
 -- bs begins with the first k lines of some schedule's text
 pub record Fits (k : ℕ) (bs : List ℕ) : Type 0 where

@@ -13,7 +13,8 @@ use Rattle.std.specs.Text.{Utf8, In}
 use Rattle.std.specs.Written.{decimal}
 use Rattle.std.specs.declared.result.Result.{Result}
 use Rattle.std.specs.declared.result.Result.the-variants.{Ok, Err}
-use Rattle.std.proofs.shelf.Decimals.{decimal-some, decimal-digit, decimal-value, digits-decimal, value-decimal, first-decimal, ascii-decimal}
+use Rattle.std.proofs.shelf.Decimals.{decimal-some, decimal-digit, decimal-value}
+use Rattle.std.proofs.shelf.Decimals.{digits-decimal, value-decimal, first-decimal, ascii-decimal}
 use Rattle.std.proofs.shelf.Numerals.{Numerals, numerals-by-value, tells-digits, parse-plain, digit-at}
 use Rattle.std.proofs.shelf.Text.{utf8-from-ascii}
 use Rattle.std.proofs.str.Laws.{order}
@@ -24,7 +25,9 @@ own = numerals-by-value (Digits 10) tells-digits
 
 one-zero : (n : ℕ) → n < 65536 → getD (decimal n) 0 0 ≡ 48 → length (decimal n) ≡ 1
 one-zero n h z =
-    ⊎-elim (λ p. absurd (omega (arith, first-decimal n p (omega arith)))) (λ p. ap length (decimal-digit n (omega arith))) (order 0 n)
+    ⊎-elim (λ p. absurd (omega (arith, first-decimal n p (omega arith))))
+    (λ p. ap length (decimal-digit n (omega arith)))
+    (order 0 n)
 
 -- the text of a number has no sign and no needless zero
 pub starts-numeral : (bs : List ℕ) (n : ℕ) → Numeral bs n → StartsPlain bs
@@ -32,7 +35,8 @@ starts-numeral bs n h =
     let lt = h .small in
     let some = decimal-some n (omega arith) in
     let first = digit-at (decimal n) 0 (digits-decimal own n (omega arith)) some in
-    subst StartsPlain (sym (h .text)) (record { some = some; unsigned = λ e. omega (arith, first); alone = one-zero n lt })
+    subst StartsPlain (sym (h .text))
+    (record { some = some; unsigned = λ e. omega (arith, first); alone = one-zero n lt })
 
 -- the text of a number is text
 pub utf8-numeral : (bs : List ℕ) (n : ℕ) → Numeral bs n → Utf8 bs

@@ -91,14 +91,16 @@ no-end-written e h = no-end-inked (written e) (inked-letter e, inked-spelled (nu
 pub number-of-cut : (s line rest after : List ℕ) (n : ℕ) → Cut s line rest → NumberLine s n after → Numeral line n
 number-of-cut s line rest after n c h = record {
   small = h .small;
-  text = sym (one-cut (decimal n) after line rest (no-end-decimal n (h .small)) (c .one) (sym (h .whole) ∙ c .whole) .0);
+  text =
+      sym (one-cut (decimal n) after line rest (no-end-decimal n (h .small)) (c .one) (sym (h .whole) ∙ c .whole) .0);
 }
 
 -- the line that is cut off writes the event that the text begins with
 pub event-of-cut : (s line rest after : List ℕ) (e : Event) → Cut s line rest → EventLine s e after → Writes line e
 event-of-cut s line rest after e c h = record {
   small = h .small;
-  text = sym (one-cut (written e) after line rest (no-end-written e (h .small)) (c .one) (sym (h .whole) ∙ c .whole) .0);
+  text =
+      sym (one-cut (written e) after line rest (no-end-written e (h .small)) (c .one) (sym (h .whole) ∙ c .whole) .0);
 }
 
 -- a line cut off that holds a number is a number line

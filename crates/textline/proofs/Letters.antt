@@ -17,7 +17,8 @@ pub record Line (bs : List ℕ) (letter : ℕ) (ns : List ℕ) : Type 0 where
   pub small : Small ns
   pub text : bs ≡ letter ∷ spelled ns
 
-pub line-is : (bs rest ns : List ℕ) (first letter count : ℕ) → bs ≡ first ∷ rest → first ≡ letter → Spells count rest ns → Line bs letter (places ns count)
+pub line-is : (bs rest ns : List ℕ) (first letter count : ℕ) → bs ≡ first ∷ rest → first ≡ letter
+    → Spells count rest ns → Line bs letter (places ns count)
 line-is bs rest ns first letter count e f h =
     let same : ns ≡ places ns count = fill-by-all (λ i. getD ns i 0) ns count 0 (h .long) (λ k lt. refl) in
     record { small = subst Small same (h .small); text = e ∙ (λ i. f i ∷ (h .text ∙ ap spelled same) i) }

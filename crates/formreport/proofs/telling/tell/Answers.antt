@@ -7,7 +7,8 @@ use Rattle.formreport.proofs.telling.tell.Needs as need
 
 pub returns-in-Break-sizes : need.returns-in-Break-sizes
 returns-in-Break-sizes c =
-    fails _ _ _ _ _ _ (c .from-residual .ensures .1) (sym (append-nil _)) (before-sizes _ _ (c .in-Break-sizes .ensures tt))
+    fails _ _ _ _ _ _ (c .from-residual .ensures .1) (sym (append-nil _))
+    (before-sizes _ _ (c .in-Break-sizes .ensures tt))
 
 pub returns-in-Break-push-str : need.returns-in-Break-push-str
 returns-in-Break-push-str c = fails-memory _ _ _ _ (c .from-residual-in-Break-push-str .ensures .1)
@@ -17,7 +18,8 @@ returns-in-Break-count c =
     let sizes = c .in-Continue-sizes .ensures tt in
     let f = c .in-Break-count .ensures tt in
     fails _ _ _ _ _ _ (c .from-residual-in-Break-count .ensures .1)
-    (pushed _ _ _ _ (c .in-Continue-push-str .ensures tt .bytes) (c .as-str .ensures .value ∙ c .in-Continue-sizes-line .ensures tt))
+    (pushed _ _ _ _ (c .in-Continue-push-str .ensures tt .bytes)
+    (c .as-str .ensures .value ∙ c .in-Continue-sizes-line .ensures tt))
     (before-count _ _ _ _ (sizes .0) (sizes .1) (f .0) (f .1))
 
 pub loop-index-holds : need.loop-index-holds
@@ -63,4 +65,5 @@ returns c =
     let opened = opening _ _ _ _ _ _ _ (c .in-Continue-push-str .ensures tt .bytes)
     (c .as-str .ensures .value ∙ c .in-Continue-sizes-line .ensures tt) (c .in-Continue-push-str-2 .ensures tt .bytes)
     (c .as-str-2 .ensures .value ∙ c .in-Continue-count-line .ensures tt) in
-    tells-all (c .loop-index .inv) _ _ _ (sizes .0) (sizes .1) opened tt (omega arith) (c .in-Continue-take-end .ensures tt)
+    tells-all (c .loop-index .inv) _ _ _ (sizes .0) (sizes .1) opened tt (omega arith)
+    (c .in-Continue-take-end .ensures tt)

@@ -18,7 +18,8 @@ returns-in-Break-count c =
     let sizes = c .in-Continue-sizes .ensures tt in
     let f = c .in-Break-count .ensures tt in
     let stop = count-stops _ _ _ (sizes .1) (f .1) in
-    whole (fails-at _ _ _ 5 (c .from-residual-in-Break-count .ensures .1) (f .0) (sizes .0) stop (early-none _ 5 stop (omega arith)))
+    whole (fails-at _ _ _ 5 (c .from-residual-in-Break-count .ensures .1) (f .0) (sizes .0) stop
+    (early-none _ 5 stop (omega arith)))
 
 pub loop-index-holds : need.loop-index-holds
 loop-index-holds c =

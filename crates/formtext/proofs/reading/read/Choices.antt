@@ -6,4 +6,5 @@ use Rattle.formtext.proofs.reading.read.Given as given
 
 abbrev pub Inv-loop-index : given.InvT-loop-index
 Inv-loop-index l =
-    (length (vec-items (l .events)) ≡ l .index) × Progress (l .text) (l .sizes) (l .count) (vec-items (l .events)) (l .rest)
+    (length (vec-items (l .events)) ≡ l .index)
+    × Progress (l .text) (l .sizes) (l .count) (vec-items (l .events)) (l .rest)

@@ -11,4 +11,10 @@ returns-in-Break-n c =
     let cut = c .in-Continue-first .ensures tt .cases .0 in
     let whole = f .whole in
     let e : c .in-Continue-first .rest .now ≡ decimal n ++ after = cc in
-    c .in-Break-n .ensures tt n (record { small = f .small; text = c .split-at .ensures .front ∙ front-is _ after _ n (record { digits = c .digits-len .ensures .digits; stops = c .digits-len .ensures .stops }) (f .small) e (f .stops) }))
+    c .in-Break-n .ensures tt n (record {
+      small = f .small;
+      text = c .split-at .ensures .front
+          ∙ front-is _ after _ n
+          (record { digits = c .digits-len .ensures .digits; stops = c .digits-len .ensures .stops })
+          (f .small) e (f .stops);
+    }))

@@ -19,7 +19,7 @@ returns-in-Ok g c =
       promise = (
         subst (λ (z : Size). Stands-after z (c .args .calls .now)
             (board-state (g .M·Memory .meaning) (c .run .last .self))) (sym (c .run .ensures .same))
-            (c .run .ensures .promise [] (began .follows)),
-        throughout _ (within-of (c .run .last .self .door .lock .sizes)) _,
+            (c .run .ensures .promise [] (began .follows) .0),
+        throughout _ (within-of (c .run .last .self .door .lock .sizes)) [] _,
       );
     }
