@@ -1,8 +1,8 @@
 #!/usr/bin/env python3
 """Plants faults in a copy of the repository, one at a time, and reports which the prover refuses.
 
-    plant.py LIST [--repo DIR] [--copy DIR] [--only LABEL].. [--above] [--fresh] [--command TEXT] [--seconds N]
-                  [--logs DIR] [--record FILE] [--table FILE] [--dry-run]
+    plant.py LIST [--repo DIR] [--copy DIR] [--only LABEL].. [--above [LAST]] [--fresh] [--command TEXT]
+                  [--seconds N] [--logs DIR] [--record FILE] [--table FILE] [--dry-run]
 
 LIST is a text of blocks, one a planted fault, with an empty line between blocks; a line that begins with '#' is a
 comment. A block is
@@ -19,8 +19,9 @@ stand exactly once in its file, within a line; the text after 'new: ' takes its 
 names one block only.
 
 A fault is judged by the crates whose files it changes, in the order of crates.txt, until one is refused. With --above,
-the crates that stand on them are checked too, in that order: a fault that is planted in the code and in its definition
-alike is accepted by its own crate, and has to be refused further up. Every fault ends as one of
+the crates that stand on them are checked too, in that order, up to LAST if one is named: a fault that is planted in the
+code and in its definition alike is accepted by its own crate, and has to be refused further up. Every fault ends as
+one of
 
     refused      the prover says no; the crate and the place of the first error are printed. A first error in a proof
                  file is marked: it may only mean that the proof no longer fits the text, so read the log
@@ -32,8 +33,8 @@ alike is accepted by its own crate, and has to be refused further up. Every faul
     not planted  an old text is missing or stands more than once
 
 --copy names the folder of the copy, which is kept for the next run; without it the copy is thrown away. --record keeps
-every verdict in a file; a fault that has one there, and was not changed since, is not tried again. --table writes the
-verdicts as a table; with --record, all that are recorded for the list.
+every verdict in a file; a fault that has one there, other than "no end", and was not changed since is not tried again.
+--table writes the verdicts as a table; with --record, all that are recorded for the list.
 
 The status is 0 if every fault was refused, 1 if not, 2 if the script could not do its work. It is no part of the gate.
 """
@@ -184,10 +185,14 @@ def to_check(crates, fault, above):
     unknown = wanted - set(crates)
     if unknown:
         raise Unusable(f"{fault.label}: crates.txt has no {', '.join(sorted(unknown))}")
-    for crate, needs in crates.items():
-        if above and wanted.intersection(needs):
+    order = list(crates)
+    if above and above not in crates:
+        raise Unusable(f"crates.txt has no {above}")
+    reach = [] if above is None else order[: order.index(above) + 1] if above else order
+    for crate in reach:
+        if wanted.intersection(crates[crate]):
             wanted.add(crate)
-    return [crate for crate in crates if crate in wanted]
+    return [crate for crate in order if crate in wanted]
 
 
 def why_not_plantable(root, fault):
@@ -398,7 +403,9 @@ def parse_options(words):
     parser.add_argument("--repo", type=Path, default=Path(__file__).resolve().parents[2])
     parser.add_argument("--copy", type=Path, help="the folder of the copy, kept for the next run")
     parser.add_argument("--only", action="append", metavar="LABEL", help="only this fault; may be repeated")
-    parser.add_argument("--above", action="store_true", help="check the crates above too, while the fault survives")
+    parser.add_argument(
+        "--above", nargs="?", const="", metavar="LAST", help="check the crates above too, while the fault survives"
+    )
     parser.add_argument("--fresh", action="store_true", help="start without a copy of target/")
     parser.add_argument("--command", default="rt check {crate}", help="the check; {crate} is the crate's name")
     parser.add_argument("--seconds", type=float, default=1800, help="longest time for one check")
@@ -413,7 +420,7 @@ def see_plantable(repo, faults):
     crates = read_crates(repo)
     troubles = []
     for fault in faults:
-        to_check(crates, fault, False)
+        to_check(crates, fault, None)
         trouble = why_not_plantable(repo, fault)
         if trouble:
             troubles.append(trouble)
@@ -449,7 +456,7 @@ def plant(options):
     if options.dry_run:
         return see_plantable(repo, faults)
     verdicts = read_record(options.record)
-    known = {verdict.label: verdict.digest for verdict in verdicts.values()}
+    known = {verdict.label: verdict.digest for verdict in verdicts.values() if verdict.result != "no end"}
     left = [fault for fault in faults if known.get(fault.label) != fault.digest]
     options.logs.mkdir(parents=True, exist_ok=True)
     with tempfile.TemporaryDirectory(prefix="plant-") as folder:
