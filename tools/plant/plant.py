@@ -252,20 +252,20 @@ def replace_path(source, goal):
         shutil.rmtree(goal)
     elif goal.exists():
         goal.unlink()
+    goal.parent.mkdir(parents=True, exist_ok=True)
     if source.is_dir():
         shutil.copytree(source, goal, symlinks=True)
     elif source.exists():
-        goal.parent.mkdir(parents=True, exist_ok=True)
         shutil.copy2(source, goal)
 
 
-def bring_back(clean, copy, crates):
-    """Puts back what checks of these crates left without any fault, so that the next fault is compared with it."""
+def carry_over(source, goal, crates):
+    """Makes what the checks of these crates have left in one target/ what they left in another."""
     for crate in crates:
         parts = [f"inc/{crate}", f"inc/{crate}.tests", f"rlib/{crate}.rlib", f"bin/{crate}", f"obj/{crate}.o"]
         parts += [f"stamp/{crate}", f"stamp/{crate}.tests"]
         for part in parts:
-            replace_path(clean / part, copy / "target" / part)
+            replace_path(source / part, goal / part)
 
 
 # One check
@@ -434,12 +434,12 @@ def try_all(copy, options, faults, verdicts):
     crates = read_crates(copy)
     checked = check_unedited(copy, options, crates, faults)
     with tempfile.TemporaryDirectory(prefix="plant-clean-") as folder:
-        clean = Path(folder) / "target"
-        for part in ("inc", "rlib", "bin", "obj", "stamp"):
-            replace_path(copy / "target" / part, clean / part)
+        # What the checks left without any fault is put back after each, so that the next is compared with it.
+        clean = Path(folder)
+        carry_over(copy / "target", clean, checked)
         for number, fault in enumerate(faults, 1):
             verdict = judge(copy, options, crates, fault)
-            bring_back(clean, copy, verdict.passed + [verdict.crate] if verdict.crate else sorted(checked))
+            carry_over(clean, copy / "target", verdict.passed + [verdict.crate] if verdict.crate else checked)
             verdicts[fault.label] = verdict
             print(f"{number}/{len(faults)} {verdict.line()}", flush=True)
             if options.record:
