@@ -59,7 +59,8 @@ impl Deferred {
         self.txs[card] = own;
     }
 
-    // A read in an open transaction. The cast keeps the number, which is below 137.
+    // A read in an open transaction. A cell number is cast only past the range check, so that the cast is proved to
+    // lose nothing.
     fn read_open(&mut self, mut log: Log, card: usize, cell: usize) -> Result<u16, MemoryFault>
         requires at { ⌜ (card < 8) × (cell < 137) ⌝ }
         ensures answer { λ r. ⌜

@@ -1,3 +1,4 @@
+// The first memory: written values are set aside until the commit.
 pub mod calls;
 pub mod deferred;
 pub(crate) mod doom;

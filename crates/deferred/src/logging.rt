@@ -1,6 +1,6 @@
 ghost use mathlib.Core.Path.{_≡_};
 ghost use mathlib.Core.List.{[]};
-ghost use mathlib.Core.Bool.{cond};
+ghost use mathlib.Core.Bool.{cond, false};
 ghost use lib.ListN.{length};
 ghost use Rattle.std.specs.declared.option.Option.the-variants.{Some, None};
 ghost use Rattle.memory.specs.Marks.{marks-of};
@@ -53,11 +53,13 @@ impl Log {
         }
     }
 
-    // Sets the value aside, in place of an earlier one of the cell; false where it would be a fifth.
+    // Sets the value aside, in place of an earlier one of the cell; false, and no change, where it would be a
+    // fifth.
     pub(crate) fn record(&mut self, cell: u8, value: u16) -> bool
         ensures writes { λ r. ⌜
             recording (writes-of (now (self .entry))) cell value
             ≡ cond r (Some (writes-of (now (self .exit)))) None ⌝ }
+        ensures kept { λ r. ⌜ (r ≡ false → writes-of (now (self .exit)) ≡ writes-of (now (self .entry))) ⌝ }
         ensures marks { λ _. ⌜ now (self .exit) .marks ≡ now (self .entry) .marks ⌝ }
     {
         if let Some(i) = find(self.writes(), cell as usize) {

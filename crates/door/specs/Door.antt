@@ -36,6 +36,7 @@ Reply = Result Answer DoorFault × DoorState
 abbrev pub new-memo : Memo
 new-memo = record { toggle = 1; request = None; answer = Ok Done }
 
+-- a board newly set up
 unfoldable pub new-door : DoorState
 new-door = record { lock = new-lock; memos = replicate 8 new-memo }
 
@@ -43,6 +44,7 @@ new-door = record { lock = new-lock; memos = replicate 8 new-memo }
 abbrev pub no-memo : Memo
 no-memo = record { toggle = 0; request = None; answer = Ok Done }
 
+-- what is remembered of a card
 abbrev pub memo-of : DoorState → ℕ → Memo
 memo-of s c = getD (s .memos) c no-memo
 
@@ -55,9 +57,11 @@ worded k a b =
     (cond (eqb k 4) (Ok (Add a b))
     (cond (eqb k 5) (cond (eqb b 0) (Ok (Show a)) (Err Malformed)) (Err Malformed)))))
 
+-- the request that a toggle, a kind and two numbers make
 abbrev pub understood : ℕ → ℕ → ℕ → ℕ → Result Request DoorFault
 understood t k a b = cond (ltb t 2) (worded k a b) (Err Malformed)
 
+-- whether two modes are the same
 abbrev pub same-mode : Mode → Mode → Bool
 same-mode Read Read = true
 same-mode Read Write = false
@@ -107,6 +111,7 @@ noted s c t w p = (
   record { lock = p .1; memos = set (s .memos) c (record { toggle = t; request = Some w; answer = p .0 }) },
 )
 
+-- a request of its form, or not, by a card that there is
 abbrev pub judged : Size → DoorState → ℕ → ℕ → Result Request DoorFault → Reply
 judged z s c t (Ok w) =
     cond (eqb (memo-of s c .toggle) t)

@@ -9,9 +9,11 @@ use Rattle.door.specs.declared.door.Door.{Door}
 use Rattle.door.specs.declared.fault.Unfit.{Unfit}
 use Rattle.door.specs.Door.{DoorState, new-door}
 
+-- the state of a door's lock, and what it remembers
 abbrev pub door-state : {X : Type 0} → (X → Meaning) → Door X → DoorState
 door-state meaning d = record { lock = lock-state meaning (d .lock); memos = d .memos }
 
+-- the sizes of a door's lock
 abbrev pub door-size : {X : Type 0} → Door X → Size
 door-size d = size-of (d .lock .sizes)
 

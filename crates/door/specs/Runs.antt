@@ -42,16 +42,19 @@ abbrev pub small : List Call → List ℕ → List (Result Answer DoorFault) →
 small cs xs rs vs =
     record { cards = 2; nodes = 4; counters = 1; calls = cs; cells = xs; seen = Ok (rs, vs) }
 
--- the calls by card and toggle
+-- a request of card c with toggle t: to enter to read on node n
 abbrev pub enters-to-read : ℕ → ℕ → ℕ → Call
 enters-to-read c t n = call.Request c t 1 n 0
 
+-- to enter to write on node n
 abbrev pub enters-to-write : ℕ → ℕ → ℕ → Call
 enters-to-write c t n = call.Request c t 2 n 0
 
+-- to leave
 abbrev pub leaves : ℕ → ℕ → Call
 leaves c t = call.Request c t 3 0 0
 
+-- to add an amount to counter 0
 abbrev pub adds : ℕ → ℕ → ℕ → Call
 adds c t a = call.Request c t 4 0 a
 
@@ -59,10 +62,11 @@ adds c t a = call.Request c t 4 0 a
 abbrev pub steps : ℕ → ℕ → List Call
 steps c n = replicate n (call.Step c)
 
--- the answers
+-- the answer to an accepted request
 abbrev pub done : Result Answer DoorFault
 done = Ok answer.Done
 
+-- one answer
 abbrev pub is : Answer → List (Result Answer DoorFault)
 is a = Ok a ∷ []
 
@@ -74,6 +78,7 @@ then-after n a = replicate n (Ok answer.Step) ++ is a
 abbrev pub one-behind : List Call
 one-behind = enters-to-write 0 0 0 ∷ steps 0 4 ++ (enters-to-write 1 0 1 ∷ steps 1 6)
 
+-- the answers to that: card 0 is in at its 4th step, and card 1 waits at its 6th
 abbrev pub one-behind-answers : List (Result Answer DoorFault)
 one-behind-answers = done ∷ then-after 3 answer.In ++ (done ∷ then-after 5 answer.Wait)
 
@@ -81,6 +86,7 @@ one-behind-answers = done ∷ then-after 3 answer.In ++ (done ∷ then-after 5 a
 abbrev pub all-ones : NodeValues
 all-ones = record { next = 65535; prev = 65535; state = 65535; spin = 65535 }
 
+-- the runs, each with what is to be seen of it
 abbrev pub runs : List Run
 runs =
     -- the largest board

@@ -2,7 +2,7 @@
 ghost use mathlib.Core.Path.{_≡_};
 ghost use Rattle.door.specs.Door.{understood, resent, served, asked, told};
 ghost use Rattle.door.specs.Doors.{door-state, door-size};
-ghost use Rattle.lock.specs.Locks.{lock-state, size-of};
+ghost use Rattle.lock.specs.Locks.{lock-state};
 use crate::door::Door;
 use crate::fault::DoorFault;
 use crate::fault::DoorFaultFromLock;

@@ -26,6 +26,7 @@ use Rattle.formreport.specs.Accounts.Accounts.{refused, accepted}
 use Rattle.formreport.specs.Accounts.Before.{long, unsized, uncounted, stopped}
 use Rattle.formwords.specs.Words.{sizesLine, countLine, eventLine, eventLines, faultLine, wholeLine}
 
+-- one event more at the end
 lines-push : (line : ℕ) (done : List Event) (e : Event)
     → eventLines line (done ++ e ∷ []) ≡ eventLines line done ++ eventLine (line + length done) e
 lines-push line [] e = append-nil (eventLine line e) ∙ ap (λ k. eventLine k e) (sym (add-zero line))
@@ -81,6 +82,7 @@ pub record Telling (bs start now : List ℕ) (count index : ℕ) (rest : List �
   pub progress : Progress bs sizes count done rest
   pub told : now ≡ start ++ eventLines 6 done
 
+-- before the first event
 pub telling-none : (bs start head body : List ℕ) (s : SizeLines) (count : ℕ) → SizeSection bs s head → count ≤ 2000
     → NumberLine head count body → Telling bs start start count 0 body
 telling-none bs start head body s count section few counted = record {
@@ -92,6 +94,7 @@ telling-none bs start head body s count section few counted = record {
 }
 
 module _ {bs start now : List ℕ} {count index : ℕ} {rest : List ℕ} (t : Telling bs start now count index rest) where
+  -- one event more is told
   pub telling-more : (next piece after : List ℕ) (line : ℕ) (e : Event) → index < count → EventLine rest e after
       → next ≡ now ++ piece → piece ≡ eventLine line e → line ≡ 6 + index
       → Telling bs start next count (index + 1) after
@@ -110,11 +113,13 @@ module _ {bs start now : List ℕ} {count index : ℕ} {rest : List ℕ} (t : Te
 
   module _ (first head : List ℕ) (s : SizeLines) (short : length bs ≤ 65535) (section : SizeSection bs s head)
       (opened : start ≡ first ++ (sizesLine s ++ countLine count)) where
+    -- the sizes that were read are those of the text
     progress-here : Progress bs s count (t .done) rest
     progress-here =
         subst (λ x. Progress bs x count (t .done) rest)
         (same-sizes bs _ head (t .sizes) s (t .progress .section) section) (t .progress)
 
+    -- all that is told so far
     all-told : now ≡ first ++ (sizesLine s ++ (countLine count ++ eventLines 6 (t .done)))
     all-told =
         t .told ∙ ap (λ l. l ++ eventLines 6 (t .done)) opened

@@ -13,6 +13,7 @@ use Rattle.textline.specs.Events.{written}
 use Rattle.schedule.specs.Schedules.{linesOf, textOf, rendered}
 use Rattle.formtext.specs.Heads.{headText}
 
+-- one line more at the end
 text-push : (ls : List (List ℕ)) (l : List ℕ) → textOf (ls ++ l ∷ []) ≡ textOf ls ++ (l ++ (10 ∷ []))
 text-push [] l = refl
 text-push (x ∷ ls) l =
@@ -29,6 +30,7 @@ events-more start out next line es i d lt inv pushed is =
     ∙ append-assoc start (textOf lines) (written (getD es i d) ++ (10 ∷ []))
     ∙ ap (λ t. start ++ t) (sym (ap textOf (map-more written es i d lt) ∙ text-push lines (written (getD es i d))))
 
+-- the head and the lines of events are the lines of the schedule
 head-is : (s : SizeLines) (count : ℕ) (rest : List (List ℕ)) → headText s count ++ textOf rest
     ≡ textOf (decimal 3 ∷ decimal (s .cards) ∷ decimal (s .nodes) ∷ decimal (s .counters) ∷ decimal count ∷ rest)
 head-is s count rest = rw (decimal-digit 3 (omega arith)) (simp append-assoc)

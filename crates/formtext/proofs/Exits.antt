@@ -22,6 +22,7 @@ use Rattle.formtext.specs.declared.faults.ReadFault.the-variants.{Memory, Form
 use Rattle.formtext.specs.declared.reading.Schedule.{Schedule}
 use Rattle.formtext.specs.Reads.{Reads, GivesBack, ReadsWhole}
 
+-- whatever schedule the text is of is the one that was read
 gives-back : (bs : List ℕ) (r : Result Schedule ReadFault) → Reads bs r → (s : SizeLines) (es : List Event)
     → Renders bs s es → length bs ≤ 65535 → GivesBack s es r
 gives-back bs (Ok v) h s es t le =

@@ -16,7 +16,7 @@ use Rattle.formtext.specs.declared.faults.ReadFault.the-variants.{Memory, Form
 use Rattle.formtext.specs.declared.reading.Schedule.{Schedule}
 
 -- a text of at most 65,535 bytes is the rendering of what is read; where it is that of nothing,
--- the fault names the first line at which it stops to be that of a schedule
+-- the fault names the first line at which it stops being that of a schedule
 abbrev pub Reads : List ℕ → Result Schedule ReadFault → Type 0
 Reads bs (Ok v) = (length bs ≤ 65535) × Renders bs (v .sizes) (vec-items (v .events))
 Reads bs (Err Memory) = Unit {0}

@@ -1,3 +1,4 @@
+// The second memory: written values go into the cells at once, and old ones are kept to restore.
 pub(crate) mod accesses;
 pub mod calls;
 pub mod inplace;

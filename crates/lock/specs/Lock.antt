@@ -64,10 +64,11 @@ pub record LockState : Type 0 where
 abbrev pub Turn : Type 0
 Turn = Result Answer LockFault × LockState
 
--- a lock newly set up: the memory cleared, every card idle
+-- an idle card
 abbrev pub idle-card : Card
 idle-card = record { stage = Idle }
 
+-- a lock newly set up: the memory cleared, every card idle
 abbrev pub new-lock : LockState
 new-lock = record { meaning = cleared; cards = replicate 8 idle-card }
 
@@ -83,6 +84,7 @@ staged s m c g = record { meaning = m; cards = set (s .cards) c (record { stage 
 abbrev pub kept : LockState → Meaning → LockState
 kept s m = record { meaning = m; cards = s .cards }
 
+-- a refusal that changes nothing
 abbrev pub refuses : LockState → LockFault → Turn
 refuses s f = (Err f, s)
 
@@ -110,10 +112,12 @@ returns-by g f NoTransaction = (g, Err (Memory f))
 returns-by g f Doomed = (begin-of g, Ok Lost)
 returns-by g f Full = (g, Err (Memory f))
 
+-- the stage and the answer by the memory's outcome
 abbrev pub advanced : Stage → Result ℕ MemoryFault → Stage × Result Answer LockFault
 advanced g (Ok v) = goes g v
 advanced g (Err f) = returns-by g f (f .refusal)
 
+-- the row that makes a memory call; a stage without one takes no step
 abbrev pub step-by : LockState → ℕ → Option MemoryCall → Turn
 step-by s c None = refuses s NotAllowed
 step-by s c (Some k) =
@@ -121,26 +125,31 @@ step-by s c (Some k) =
     let p = advanced (stage-of s c) (o .answer) in
     (p .1, staged s (o .after) c (p .0))
 
+-- a step of a card
 abbrev pub stepped : Size → LockState → ℕ → Turn
 stepped z s c = of-card z s c (step-by s c (call-of (z .nodes) c (stage-of s c)))
 
 -- Abort: the transaction is dropped, and the card goes to its begin.
 
+-- the transaction dropped, or the refusal of that
 abbrev pub drop-by : LockState → ℕ → Result ℕ MemoryFault → Meaning → Turn
 drop-by s c (Ok v) m = (Ok Done, staged s m c (begin-of (stage-of s c)))
 drop-by s c (Err f) m = (Err (Memory f), kept s m)
 
+-- only a row that goes by a transaction has one to drop
 abbrev pub abort-by : LockState → ℕ → Option MemoryCall → Turn
 abort-by s c None = refuses s NotAllowed
 abort-by s c (Some k) =
     let o = performed (s .meaning) (call.Drop c) in
     cond (in-transaction k) (drop-by s c (o .answer) (o .after)) (refuses s NotAllowed)
 
+-- an abort of a card
 abbrev pub aborted : Size → LockState → ℕ → Turn
 aborted z s c = of-card z s c (abort-by s c (call-of (z .nodes) c (stage-of s c)))
 
 -- Nodes: a node is free unless a card that is not idle has it.
 
+-- whether a card at a stage has the node
 abbrev pub has-node : Stage → ℕ → Bool
 has-node Idle n = false
 has-node (WriterEnters k at) n = eqb k n
@@ -150,6 +159,7 @@ has-node (Adds k at) n = eqb k n
 has-node (WriterLeaves k at) n = eqb k n
 has-node (ReaderLeaves k at) n = eqb k n
 
+-- whether none of the cards has the node
 abbrev pub free : List Card → ℕ → Bool
 free [] n = true
 free (r ∷ rs) n = cond (has-node (r .stage) n) false (free rs n)
@@ -175,18 +185,22 @@ on-free z s n t = cond (ltb n (z .nodes)) (cond (free (s .cards) n) t (refuses s
 
 -- Enter: the node's cells are stored, and the card stands at the first row.
 
+-- what an entry stores: state, spin 1, next 0 and, for a reader, prev 0
 abbrev pub entry-stores : ℕ → Mode → List (ℕ × ℕ)
 entry-stores n Read =
     (node-cell n State, reader) ∷ (node-cell n Spin, 1) ∷ (node-cell n Next, 0) ∷ (node-cell n Prev, 0) ∷ []
 entry-stores n Write = (node-cell n State, writer) ∷ (node-cell n Spin, 1) ∷ (node-cell n Next, 0) ∷ []
 
+-- the first row of an entry
 abbrev pub first-stage : ℕ → Mode → Stage
 first-stage n Read = ReaderEnters n R1
 first-stage n Write = WriterEnters n W1
 
+-- the card moves once all is stored
 abbrev pub enter-by : LockState → ℕ → Stage → Result (Unit {0}) LockFault × Meaning → Turn
 enter-by s c g p = elim (p .0) [ Ok u ↦ (Ok Done, staged s (p .1) c g) | Err f ↦ (Err f, kept s (p .1)) ]
 
+-- only an idle card enters
 abbrev pub enter-at : Size → LockState → ℕ → Mode → ℕ → Stage → Turn
 enter-at z s c m n Idle = on-free z s n (enter-by s c (first-stage n m) (stores c (entry-stores n m) (s .meaning)))
 enter-at z s c m n (WriterEnters k at) = refuses s NotAllowed
@@ -196,6 +210,7 @@ enter-at z s c m n (Adds k at) = refuses s NotAllowed
 enter-at z s c m n (WriterLeaves k at) = refuses s NotAllowed
 enter-at z s c m n (ReaderLeaves k at) = refuses s NotAllowed
 
+-- an entry of a card on a node
 abbrev pub entered : Size → LockState → ℕ → Mode → ℕ → Turn
 entered z s c m n = of-card z s c (enter-at z s c m n (stage-of s c))
 
@@ -211,18 +226,22 @@ inside-by s k (Adds n at) = refuses s NotAllowed
 inside-by s k (WriterLeaves n at) = refuses s NotAllowed
 inside-by s k (ReaderLeaves n at) = refuses s NotAllowed
 
+-- the first row of an exit
 abbrev pub leave-at : LockState → ℕ → ℕ → Mode → Turn
 leave-at s c n Read = (Ok Done, staged s (s .meaning) c (ReaderLeaves n Y1))
 leave-at s c n Write = (Ok Done, staged s (s .meaning) c (WriterLeaves n X1))
 
+-- a card leaves
 abbrev pub left : Size → LockState → ℕ → Turn
 left z s c = of-card z s c (inside-by s (leave-at s c) (stage-of s c))
 
+-- only a writer adds, to a counter that there is
 abbrev pub add-at : Size → LockState → ℕ → ℕ → ℕ → ℕ → Mode → Turn
 add-at z s c k a n Read = refuses s NotAllowed
 add-at z s c k a n Write =
     cond (ltb k (z .counters)) (Ok Done, staged s (s .meaning) c (Adds n (A1 k a))) (refuses s NoPlace)
 
+-- a card adds an amount to a counter
 abbrev pub added : Size → LockState → ℕ → ℕ → ℕ → Turn
 added z s c k a = of-card z s c (inside-by s (add-at z s c k a) (stage-of s c))
 
@@ -231,24 +250,29 @@ abbrev pub count-by : LockState → Result ℕ MemoryFault → Meaning → Turn
 count-by s (Ok v) m = (Ok (Count v), kept s m)
 count-by s (Err f) m = (Err (Memory f), kept s m)
 
+-- a counter that there is, loaded
 abbrev pub show-at : Size → LockState → ℕ → ℕ → ℕ → Mode → Turn
 show-at z s c k n m =
     let o = performed (s .meaning) (call.Load c (counter-cell (z .nodes) k)) in
     cond (ltb k (z .counters)) (count-by s (o .answer) (o .after)) (refuses s NoPlace)
 
+-- a counter shown to a card
 abbrev pub shown : Size → LockState → ℕ → ℕ → Turn
 shown z s c k = of-card z s c (inside-by s (show-at z s c k) (stage-of s c))
 
 -- Reuse: an idle card stores any four values in a free node's cells, next first.
 
+-- what a reuse stores
 abbrev pub reuse-stores : ℕ → NodeValues → List (ℕ × ℕ)
 reuse-stores n v =
     (node-cell n Next, v .next) ∷ (node-cell n Prev, v .prev)
     ∷ (node-cell n State, v .state) ∷ (node-cell n Spin, v .spin) ∷ []
 
+-- the card does not move
 abbrev pub reuse-by : LockState → Result (Unit {0}) LockFault × Meaning → Turn
 reuse-by s p = elim (p .0) [ Ok u ↦ (Ok Done, kept s (p .1)) | Err f ↦ (Err f, kept s (p .1)) ]
 
+-- only an idle card reuses
 abbrev pub reuse-at : Size → LockState → ℕ → ℕ → NodeValues → Stage → Turn
 reuse-at z s c n v Idle = on-free z s n (reuse-by s (stores c (reuse-stores n v) (s .meaning)))
 reuse-at z s c n v (WriterEnters k at) = refuses s NotAllowed
@@ -258,5 +282,6 @@ reuse-at z s c n v (Adds k at) = refuses s NotAllowed
 reuse-at z s c n v (WriterLeaves k at) = refuses s NotAllowed
 reuse-at z s c n v (ReaderLeaves k at) = refuses s NotAllowed
 
+-- a reuse of a node by a card
 abbrev pub reused : Size → LockState → ℕ → ℕ → NodeValues → Turn
 reused z s c n v = of-card z s c (reuse-at z s c n v (stage-of s c))

@@ -7,9 +7,11 @@ use Rattle.lock.specs.declared.lock.Lock.{Lock}
 use Rattle.lock.specs.declared.sizes.Sizes.{Sizes}
 use Rattle.lock.specs.Lock.{LockState, Size}
 
+-- the meaning of a lock's memory, and its cards' records
 abbrev pub lock-state : {X : Type 0} → (X → Meaning) → Lock X → LockState
 lock-state meaning l = record { meaning = meaning (l .memory); cards = l .table .records }
 
+-- the sizes as numbers
 abbrev pub size-of : Sizes → Size
 size-of z = record { cards = z .cards; nodes = z .nodes; counters = z .counters }
 

@@ -2,7 +2,6 @@
 ghost use mathlib.Core.Path.{_≡_};
 ghost use Rattle.lock.specs.Lock.{advanced};
 use crate::fault::LockFault;
-use crate::fault::LockFaultFromMemory;
 use memory::fault::MemoryFault;
 use memory::fault::Refusal;
 use stages::answer::Answer;

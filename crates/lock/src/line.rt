@@ -1,8 +1,8 @@
 // The line call: the nodes in line, found from the memory's standing cells and the cards' stages.
 ghost use mathlib.Core.Path.{_≡_};
 ghost use lib.ListN.{length};
-ghost use Rattle.lock.specs.Lines.{writer-joined, reader-joined, writer-stays, reader-stays, line-link};
-ghost use Rattle.lock.specs.Lines.{behind, points, has-ahead, leads, first-link, nodes-in-line, placed};
+ghost use Rattle.lock.specs.Lines.{reader-joined, line-link, behind, points, has-ahead, leads};
+ghost use Rattle.lock.specs.Lines.{first-link, nodes-in-line, placed};
 use crate::lock::Lock;
 use memory::memory::Memory;
 use stages::layout::Field;

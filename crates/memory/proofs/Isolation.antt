@@ -3,11 +3,10 @@ use mathlib.Core.Path.{_≡_, refl, sym, ap, subst, _∙_}
 use mathlib.Core.List.{List, [], _∷_, _++_, map}
 use mathlib.Core.Bool.{Bool, true, false, cond, _||_}
 use mathlib.Core.Logic.{_≢_, _⊎_, inl, inr, ⊎-elim}
-use Prim.Native.Nat.{ℕ, zero, suc, _<_, _≤_}
+use Prim.Native.Nat.{ℕ, zero, suc, _≤_}
 use native.Mathlib.Omega.{arith}
 use lib.Dec.{eqb, ltb}
 use lib.ListN.{length, getD, set, replicate}
-use Rattle.std.specs.declared.option.Option.{Option}
 use Rattle.std.specs.declared.option.Option.the-variants.{Some, None}
 use Rattle.std.proofs.shelf.Lists.{getD-set-other, getD-set-same, getD-map, getD-past, length-map, set-past}
 use Rattle.std.proofs.shelf.Tests.{cases-eq, cases-lt, cond-false, eqb-true, ne-eqb, or-parts}
@@ -17,9 +16,9 @@ use Rattle.memory.specs.declared.access.Access.the-variants.{Reads, Writes}
 use Rattle.memory.specs.declared.call.MemoryCall.{MemoryCall}
 use Rattle.memory.specs.Meaning.{Meaning, Tx, none, live, doomed, tx-of, with-tx, served, struck, conflicts, has}
 use Rattle.memory.specs.Meaning.{wrote, marked, marking, recording, replaced, cleared}
-use Rattle.memory.specs.Calls.{performed, after-calls}
+use Rattle.memory.specs.Calls.{performed}
 use Rattle.memory.specs.Isolation.{has-written, has-touched, Apart}
-use Rattle.memory.proofs.Kept.{Kept, kept-call, kept-calls}
+use Rattle.memory.proofs.Kept.{Kept, kept-call}
 
 -- the same of cards' transactions as a function
 abbrev pub Apart-by : (ℕ → Tx) → Type 0

@@ -2,12 +2,11 @@
 use mathlib.Core.Path.{_≡_, refl, sym, ap, subst, _∙_}
 use mathlib.Core.List.{List, [], _∷_, _++_, map}
 use mathlib.Core.Bool.{Bool, true, false, cond}
-use mathlib.Core.Logic.{_≢_, ⊎-elim}
-use Prim.Native.Nat.{ℕ, suc, _<_, _≤_}
+use mathlib.Core.Logic.{⊎-elim}
+use Prim.Native.Nat.{ℕ, suc, _<_}
 use native.Mathlib.Omega.{arith}
 use lib.Dec.{eqb, ltb}
-use lib.ListN.{length, getD, set, length-append}
-use Rattle.std.specs.declared.option.Option.{Option}
+use lib.ListN.{length, set, length-append}
 use Rattle.std.specs.declared.option.Option.the-variants.{Some, None}
 use Rattle.std.proofs.shelf.Lists.{getD-set-other, length-map, length-set}
 use Rattle.std.proofs.shelf.Tests.{cases-eq, cond-false, eqb-true, eqb-false, ltb-true}
@@ -18,8 +17,8 @@ use Rattle.memory.specs.declared.call.MemoryCall.{MemoryCall}
 use Rattle.memory.specs.Meaning.{Meaning, Tx, none, live, doomed, tx-of, with-tx, served, struck, conflicts, has}
 use Rattle.memory.specs.Meaning.{wrote, marked, marking, recording, replaced, cleared, landed}
 use Rattle.memory.specs.Calls.{performed, after-calls}
-use Rattle.memory.specs.Isolation.{Apart, once, Few, Orderly, Sound, Always-sound}
-use Rattle.memory.proofs.Kept.{Kept, kept-call, kept-calls}
+use Rattle.memory.specs.Isolation.{once, Few, Orderly, Sound, Always-sound}
+use Rattle.memory.proofs.Kept.{Kept, kept-call}
 use Rattle.memory.proofs.Isolation.{apart-call, apart-kept, set-at, served-other}
 use Rattle.memory.proofs.Isolation.{has-more, wrote-replaced, clear-none, clash}
 

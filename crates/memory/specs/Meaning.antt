@@ -22,7 +22,8 @@ pub data Tx : Type 0 where
   live : List ℕ → List Write → Tx
   doomed : Tx
 
--- the standing value of each of 137 cells, and the transaction of each of eight cards
+-- the standing value of each of 137 cells, and the transaction of each of eight cards; clear makes the lists that
+-- long, and every call keeps their lengths
 pub record Meaning : Type 0 where
   pub cells : List ℕ
   pub txs : List Tx
@@ -52,9 +53,11 @@ with-tx m card t = record { cells = m .cells; txs = set (m .txs) card t }
 abbrev pub with-cell : Meaning → ℕ → ℕ → Meaning
 with-cell m cell value = record { cells = set (m .cells) cell value; txs = m .txs }
 
+-- a call that is accepted with an answer
 abbrev pub accepted : {X : Type 0} → X → Meaning → Outcome X
 accepted x m = record { answer = Ok x; after = m }
 
+-- a call that is refused, with its card and its cell
 abbrev pub refused : {X : Type 0} → Refusal → ℕ → ℕ → Meaning → Outcome X
 refused why card cell m = record { answer = Err (record { refusal = why; card = card; cell = cell }); after = m }
 
@@ -68,9 +71,11 @@ abbrev pub seek : {X : Type 0} → (X → ℕ) → ℕ → ℕ → List X → Op
 seek f cell k [] = None
 seek f cell k (x ∷ xs) = cond (eqb (f x) cell) (Some k) (seek f cell (k + 1) xs)
 
+-- whether the writes have one of the cell
 abbrev pub wrote : List Write → ℕ → Bool
 wrote ws cell = has (λ w. w .cell) ws cell
 
+-- whether the marks have the cell
 abbrev pub marked : List ℕ → ℕ → Bool
 marked ms cell = has (λ k. k) ms cell
 
@@ -101,6 +106,7 @@ abbrev pub against : Access → List ℕ → List Write → ℕ → Bool
 against Reads ms ws cell = wrote ws cell
 against Writes ms ws cell = wrote ws cell || marked ms cell
 
+-- the same of a card's transaction: only an open one can be doomed
 abbrev pub conflicts : Access → ℕ → Tx → Bool
 conflicts a cell none = false
 conflicts a cell (live ms ws) = against a ms ws cell
@@ -133,6 +139,7 @@ load-at m card cell none = accepted (standing m cell) (served Reads card cell no
 load-at m card cell (live ms ws) = refused Already card cell m
 load-at m card cell doomed = refused Already card cell m
 
+-- load: the range is judged first, and then it goes by the card's transaction
 abbrev pub loading : Meaning → ℕ → ℕ → Outcome ℕ
 loading m card cell = guarded m card cell (load-at m card cell)
 
@@ -142,6 +149,7 @@ store-at m card cell value none = accepted tt (with-cell (served Writes card cel
 store-at m card cell value (live ms ws) = refused Already card cell m
 store-at m card cell value doomed = refused Already card cell m
 
+-- store: the range is judged first, and then it goes by the card's transaction
 abbrev pub storing : Meaning → ℕ → ℕ → ℕ → Outcome (Unit {0})
 storing m card cell value = guarded m card cell (store-at m card cell value)
 
@@ -151,6 +159,7 @@ begin-at m card none = accepted tt (with-tx m card (live [] []))
 begin-at m card (live ms ws) = refused Already card 0 m
 begin-at m card doomed = refused Already card 0 m
 
+-- begin: the range is judged first, and then it goes by the card's transaction
 abbrev pub beginning : Meaning → ℕ → Outcome (Unit {0})
 beginning m card = guarded m card 0 (begin-at m card)
 
@@ -159,15 +168,18 @@ abbrev pub read-marking : Meaning → ℕ → ℕ → List Write → Option (Lis
 read-marking m card cell ws (Some ms) = accepted (standing m cell) (served Reads card cell (live ms ws) m)
 read-marking m card cell ws None = refused Full card cell (with-tx m card none)
 
+-- read in an open transaction, by its own write of the cell
 abbrev pub read-open : Meaning → ℕ → ℕ → List ℕ → List Write → Option ℕ → Outcome ℕ
 read-open m card cell ms ws (Some v) = accepted v (served Reads card cell (live ms ws) m)
 read-open m card cell ms ws None = read-marking m card cell ws (marking ms cell)
 
+-- read, by the card's transaction
 abbrev pub read-at : Meaning → ℕ → ℕ → Tx → Outcome ℕ
 read-at m card cell none = refused NoTransaction card cell m
 read-at m card cell (live ms ws) = read-open m card cell ms ws (value-in ws cell)
 read-at m card cell doomed = refused Doomed card cell (with-tx m card none)
 
+-- read: the range is judged first, and then it goes by the card's transaction
 abbrev pub reading : Meaning → ℕ → ℕ → Outcome ℕ
 reading m card cell = guarded m card cell (read-at m card cell)
 
@@ -176,11 +188,13 @@ abbrev pub write-open : Meaning → ℕ → ℕ → List ℕ → Option (List Wr
 write-open m card cell ms (Some ws) = accepted tt (served Writes card cell (live ms ws) m)
 write-open m card cell ms None = refused Full card cell (with-tx m card none)
 
+-- write, by the card's transaction
 abbrev pub write-at : Meaning → ℕ → ℕ → ℕ → Tx → Outcome (Unit {0})
 write-at m card cell value none = refused NoTransaction card cell m
 write-at m card cell value (live ms ws) = write-open m card cell ms (recording ws cell value)
 write-at m card cell value doomed = refused Doomed card cell (with-tx m card none)
 
+-- write: the range is judged first, and then it goes by the card's transaction
 abbrev pub writing : Meaning → ℕ → ℕ → ℕ → Outcome (Unit {0})
 writing m card cell value = guarded m card cell (write-at m card cell value)
 
@@ -195,6 +209,7 @@ commit-at m card none = refused NoTransaction card 0 m
 commit-at m card (live ms ws) = accepted tt (record { cells = landed (m .cells) ws; txs = set (m .txs) card none })
 commit-at m card doomed = refused Doomed card 0 (with-tx m card none)
 
+-- commit: the range is judged first, and then it goes by the card's transaction
 abbrev pub committing : Meaning → ℕ → Outcome (Unit {0})
 committing m card = guarded m card 0 (commit-at m card)
 
@@ -204,5 +219,6 @@ drop-at m card none = refused NoTransaction card 0 m
 drop-at m card (live ms ws) = accepted tt (with-tx m card none)
 drop-at m card doomed = accepted tt (with-tx m card none)
 
+-- drop: the range is judged first, and then it goes by the card's transaction
 abbrev pub dropping : Meaning → ℕ → Outcome (Unit {0})
 dropping m card = guarded m card 0 (drop-at m card)

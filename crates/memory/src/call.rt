@@ -1,7 +1,5 @@
 ghost use mathlib.Core.Path.{_≡_};
-ghost use mathlib.Core.List.{List, []};
-ghost use Rattle.memory.specs.Meaning.{cleared};
-ghost use Rattle.memory.specs.Calls.{performed, after-calls};
+ghost use Rattle.memory.specs.Calls.{performed};
 use crate::fault::MemoryFault;
 use crate::memory::Memory;
 

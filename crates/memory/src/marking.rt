@@ -1,6 +1,6 @@
 ghost use mathlib.Core.Path.{_≡_};
 ghost use mathlib.Core.List.{[]};
-ghost use mathlib.Core.Bool.{cond};
+ghost use mathlib.Core.Bool.{cond, false};
 ghost use lib.ListN.{length};
 ghost use Rattle.std.specs.declared.option.Option.the-variants.{Some, None};
 ghost use Rattle.memory.specs.Meaning.{marked, marking};
@@ -35,10 +35,11 @@ impl Marks {
         find(self.cells(), cell).is_some()
     }
 
-    // Marks the cell once; false where it would be a fifth mark.
+    // Marks the cell once; false, and no change, where it would be a fifth mark.
     pub fn mark(&mut self, cell: u8) -> bool
-        ensures { λ r. ⌜
+        ensures marks { λ r. ⌜
             marking (marks-of (now (self .entry))) cell ≡ cond r (Some (marks-of (now (self .exit)))) None ⌝ }
+        ensures kept { λ r. ⌜ (r ≡ false → marks-of (now (self .exit)) ≡ marks-of (now (self .entry))) ⌝ }
     {
         if self.has(cell as usize) {
             return true;

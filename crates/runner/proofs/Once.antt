@@ -14,18 +14,18 @@ use Rattle.lock.specs.declared.fault.SizeFault.{SizeFault}
 use Rattle.lock.specs.Lock.{Size}
 use Rattle.textline.specs.declared.events.Event.{Event}
 use Rattle.textline.specs.declared.events.SizeLines.{SizeLines}
-use Rattle.textline.specs.declared.faults.FormFault.the-variants.{TooLong, BadLine}
+use Rattle.textline.specs.declared.faults.FormFault.the-variants.{BadLine}
 use Rattle.textline.specs.Events.{written, numbersOf}
 use Rattle.textline.specs.Lines.{NoEnd}
 use Rattle.textline.specs.Numbers.{Small}
 use Rattle.textline.proofs.Ends.{no-end-decimal, no-end-written}
-use Rattle.schedule.specs.Schedules.{frontOf, linesOf, textOf, Sound, Renders, Fits, StopsAt}
+use Rattle.schedule.specs.Schedules.{frontOf, linesOf, textOf, Fits, StopsAt}
 use Rattle.schedule.specs.Sections.{SizeSection}
 use Rattle.schedule.proofs.Fronts.{peel}
 use Rattle.schedule.proofs.Once.{one-event, one-rendering}
 use Rattle.schedule.proofs.Progress.{same-sizes, early-none}
 use Rattle.report.specs.Texts.{badLine, sizesLine}
-use Rattle.runner.specs.Prints.{answered, queued, asks, Reaches, Runs, Prints, OnePrint}
+use Rattle.runner.specs.Prints.{answered, queued, asks, Reaches, Runs, OnePrint}
 use Rattle.runner.specs.Prints.Runs.{uncounted, stopped, finished}
 use Rattle.runner.specs.Prints.Prints.{long, unsized, refused, ran}
 

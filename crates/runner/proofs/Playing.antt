@@ -2,7 +2,7 @@
 use mathlib.Core.Bool.{true}
 use mathlib.Core.Path.{_≡_, refl, sym, ap, subst, _∙_}
 use mathlib.Core.List.{List, [], _∷_, _++_, append-assoc, append-nil}
-use Prim.Native.Nat.{ℕ, suc, _+_, _≤_, _<_}
+use Prim.Native.Nat.{ℕ, _+_, _≤_, _<_}
 use native.Mathlib.Omega.{arith}
 use lib.ListN.{length}
 use Rattle.std.specs.Results.{ErrBy, isErr}
@@ -22,8 +22,8 @@ use Rattle.door.specs.Door as door
 use Rattle.door.specs.Doors.{set-up}
 use Rattle.board.specs.declared.board.Board.{Board}
 use Rattle.board.specs.Boards.{given-by}
-use Rattle.board.specs.Book.{fed, Follows}
-use Rattle.board.specs.History.{board-state, board-size, nodes-of, Carries, Stands-after}
+use Rattle.board.specs.Book.{Follows}
+use Rattle.board.specs.History.{board-state, board-size, Carries, Stands-after}
 use Rattle.textline.specs.declared.events.Event.{Event}
 use Rattle.textline.specs.declared.events.SizeLines.{SizeLines}
 use Rattle.textline.specs.declared.faults.FormFault.{FormFault}
@@ -33,14 +33,14 @@ use Rattle.schedule.specs.Schedules.{Renders, StopsAt, RendersNone}
 use Rattle.schedule.specs.Sections.{SizeSection, TakesSizes}
 use Rattle.schedule.proofs.Progress.{Progress, progress-none, progress-more, progress-all}
 use Rattle.schedule.proofs.Progress.{count-stops, event-stops, event-none, end-stops, end-none}
-use Rattle.report.specs.Texts.{answerLine, badLine, sizesLine, queueLine}
+use Rattle.report.specs.Texts.{answerLine, badLine, sizesLine}
 use Rattle.runner.specs.declared.faults.RunFault.{RunFault}
 use Rattle.runner.specs.declared.faults.RunFault.the-variants.{Memory, Form, Sizes}
 use Rattle.runner.specs.Calls.{call-of-event, calls-of}
-use Rattle.runner.specs.Prints.{answered, queued, asks, Reaches, Runs, Prints}
+use Rattle.runner.specs.Prints.{answered, asks, Reaches, Runs, Prints}
 use Rattle.runner.specs.Prints.Runs.{uncounted, stopped, finished}
-use Rattle.runner.specs.Prints.Prints.{long, unsized, refused, ran}
-use Rattle.runner.specs.Plays.{Whole, Plays, Ends}
+use Rattle.runner.specs.Prints.Prints.{long, unsized, ran}
+use Rattle.runner.specs.Plays.{Plays, Ends}
 use Rattle.runner.proofs.Answering.{calls-push, state-push, answered-push}
 
 -- what set-up makes of a judgement of sizes
@@ -63,7 +63,8 @@ made-ok memory (Ok y) z s q =
     (ap (λ (w : Size × DoorState). Ok (w .0)) (sym e), ap (λ (w : Size × DoorState). w .1) e)
 made-ok memory (Err f) z s q = let w : _≡_ {A = ℕ} 0 1 = cc in absurd (omega arith)
 
-made-err : {X : Type 0} (memory : X) (j : Result Size SizeFault) (u : Unfit X) → Err u ≡ made-of memory j → j ≡ Err (u .fault)
+made-err : {X : Type 0} (memory : X) (j : Result Size SizeFault) (u : Unfit X)
+    → Err u ≡ made-of memory j → j ≡ Err (u .fault)
 made-err memory (Ok y) u q = let w : _≡_ {A = ℕ} 0 1 = cc in absurd (omega arith)
 made-err memory (Err f) u q =
     let e : u ≡ record { fault = f; memory = memory } = cc in
@@ -74,7 +75,8 @@ pub sized-up : {X : Type 0} (meaning : X → Meaning) (memory : X) (s : SizeLine
     → given-by meaning (Ok b) ≡ set-up memory (s .cards) (s .nodes) (s .counters)
     → (asks s ≡ Ok (board-size b)) × (board-state meaning b ≡ new-door)
 sized-up meaning memory s b e =
-    made-ok memory (asks s) (board-size b) (board-state meaning b) (e ∙ set-up-is memory (s .cards) (s .nodes) (s .counters))
+    made-ok memory (asks s) (board-size b) (board-state meaning b)
+    (e ∙ set-up-is memory (s .cards) (s .nodes) (s .counters))
 
 -- the sizes of none
 pub not-sized : {X : Type 0} (meaning : X → Meaning) (memory : X) (s : SizeLines) (u : Unfit X)
@@ -107,9 +109,9 @@ bad-sizes bs TooLong t = long t
 bad-sizes bs (BadLine line) t = unsized line (t .0) (t .1) (t .2)
 
 -- the count is at fault
-pub bad-count : (bs head : List ℕ) (s : SizeLines) (z : Size) (f : FormFault) → length bs ≤ 65535 → SizeSection bs s head
-    → asks s ≡ Ok z → f ≡ BadLine 5 → ((n : ℕ) (after : List ℕ) → n ≤ 2000 → NumberLine head n after → ⊥)
-    → Prints bs (badLine f)
+pub bad-count : (bs head : List ℕ) (s : SizeLines) (z : Size) (f : FormFault) → length bs ≤ 65535
+    → SizeSection bs s head → asks s ≡ Ok z → f ≡ BadLine 5
+    → ((n : ℕ) (after : List ℕ) → n ≤ 2000 → NumberLine head n after → ⊥) → Prints bs (badLine f)
 bad-count bs head s z f short section fits is none =
     subst (λ g. Prints bs (badLine g)) (sym is)
     (ran s head z _ short section fits (uncounted (count-stops bs head s section none)))
@@ -210,9 +212,9 @@ module _ {bs start now : List ℕ} {z : Size} {at : DoorState} {count index : �
         (stops (6 + count) (omega arith) (end-stops (p .progress) all) (end-none (p .progress) all some)))
 
 -- the text ends with the last event
-pub plays-all : {X : Type 0} (meaning : X → Meaning) (bs start now : List ℕ) (b : Board X) (count index : ℕ) (rest : List ℕ)
-    → Playing bs start now (board-size b) (board-state meaning b) count index rest → index ≡ count → rest ≡ []
-    → Plays meaning start bs now (Ok b)
+pub plays-all : {X : Type 0} (meaning : X → Meaning) (bs start now : List ℕ) (b : Board X) (count index : ℕ)
+    (rest : List ℕ) → Playing bs start now (board-size b) (board-state meaning b) count index rest
+    → index ≡ count → rest ≡ [] → Plays meaning start bs now (Ok b)
 plays-all meaning bs start now b count index rest p last none =
     let reached = p .reached in
     let all : length (p .done) ≡ count = omega arith in (

@@ -1,16 +1,15 @@
 -- The promise stands on every board that size lines ask for. Assumes nothing.
-use mathlib.Core.Path.{_≡_, refl, sym, ap, _∙_}
+use mathlib.Core.List.{[]}
+use mathlib.Core.Path.{_≡_, refl, sym, ap}
 use mathlib.Core.Bool.{Bool, true, false, cond}
 use Prim.Native.Nat.{ℕ, _≤_}
 use native.Mathlib.Omega.{arith}
 use lib.Dec.{leb}
 use borrow.Author.Tests.{leb-true}
-use Rattle.std.specs.declared.result.Result.{Result}
 use Rattle.std.specs.declared.result.Result.the-variants.{Ok, Err}
-use Rattle.lock.specs.declared.fault.SizeFault.{SizeFault}
 use Rattle.lock.specs.declared.fault.SizeFault.the-variants.{OutOfRange}
 use Rattle.lock.specs.Lock.{Size, within, sized}
-use Rattle.board.specs.Promise.{Within}
+use Rattle.board.proofs.Ranges.{Within}
 use Rattle.board.proofs.History.{throughout}
 use Rattle.runner.specs.Calls.{calls-of}
 use Rattle.runner.specs.Prints.{PromiseStands}
@@ -46,4 +45,4 @@ within-ranges c n k z e =
 
 -- before the first event and after each
 pub promise-stands : PromiseStands
-promise-stands s z es is = throughout z (within-ranges (s .cards) (s .nodes) (s .counters) z is) (calls-of es)
+promise-stands s z es is = throughout z (within-ranges (s .cards) (s .nodes) (s .counters) z is) [] (calls-of es)

@@ -9,7 +9,6 @@ use Rattle.std.specs.declared.result.Result.the-variants.{Ok, Err}
 use Rattle.std.proofs.shelf.Lists.{take-at, length-map}
 use Rattle.memory.specs.Meaning.{Meaning}
 use Rattle.lock.specs.Lock.{Size}
-use Rattle.lock.specs.Lines.{placed}
 use Rattle.door.specs.declared.call.Call.{Call}
 use Rattle.door.specs.Door.{DoorState}
 use Rattle.board.specs.declared.board.Board.{Board}
@@ -20,7 +19,8 @@ use Rattle.runner.specs.Plays.{Queues}
 
 -- the line of as many numbers of the place as are counted is that of the book's nodes
 queue-is : (z : Size) (s : DoorState) (place : List ℕ) (count : ℕ) (line : List ℕ) → Lines-up z s place count
-    → line ≡ queueLine (take count place) → (cs : List Call) → Follows z cs s → line ≡ queueLine (nodes-of (fed z cs .line))
+    → line ≡ queueLine (take count place) → (cs : List Call) → Follows z cs s
+    → line ≡ queueLine (nodes-of (fed z cs .line))
 queue-is z s place count line up is cs f =
     let ns = nodes-of (fed z cs .line) in
     let at = up cs f in
@@ -31,5 +31,6 @@ queue-is z s place count line up is cs f =
 pub queues : {X S E : Type 0} (meaning : X → Meaning) (b : Board X) (bytes : S → List ℕ) (place : List ℕ) (count : ℕ)
     (r : Result S E) → Lines-up (board-size b) (board-state meaning b) place count
     → made r (λ s. bytes s ≡ queueLine (take count place)) → made r (λ s. Queues meaning b (bytes s))
-queues meaning b bytes place count (Ok s) up is = queue-is (board-size b) (board-state meaning b) place count (bytes s) up is
+queues meaning b bytes place count (Ok s) up is =
+    queue-is (board-size b) (board-state meaning b) place count (bytes s) up is
 queues meaning b bytes place count (Err e) up is = tt

@@ -1,7 +1,7 @@
 -- What a run leaves before its last line, and that line. Assumes nothing.
 use mathlib.Core.Path.{_≡_}
-use mathlib.Core.List.{List, [], _∷_, _++_}
-use Prim.Native.Nat.{ℕ, _+_, _<_, _≤_}
+use mathlib.Core.List.{List, _++_}
+use Prim.Native.Nat.{ℕ, _≤_}
 use lib.ListN.{length}
 use Rattle.std.specs.declared.result.Result.{Result}
 use Rattle.std.specs.declared.result.Result.the-variants.{Ok, Err}
@@ -13,9 +13,7 @@ use Rattle.board.specs.Book.{fed, Follows}
 use Rattle.board.specs.History.{board-state, board-size, nodes-of}
 use Rattle.textline.specs.declared.events.Event.{Event}
 use Rattle.textline.specs.declared.events.SizeLines.{SizeLines}
-use Rattle.textline.specs.declared.faults.FormFault.{FormFault}
-use Rattle.textline.specs.declared.faults.FormFault.the-variants.{TooLong, BadLine}
-use Rattle.schedule.specs.Schedules.{Renders, RendersNone, StopsAt}
+use Rattle.schedule.specs.Schedules.{Renders}
 use Rattle.schedule.specs.Sections.{SizeSection}
 use Rattle.report.specs.Texts.{badLine, sizesLine, queueLine}
 use Rattle.runner.specs.declared.faults.RunFault.{RunFault}

@@ -12,7 +12,7 @@ use Rattle.lock.specs.Lock.{Size, sized}
 use Rattle.door.specs.declared.fault.DoorFault.{DoorFault}
 use Rattle.door.specs.Door.{new-door, answers}
 use Rattle.board.specs.Book.{fed}
-use Rattle.board.specs.History.{nodes-of, Stands-throughout}
+use Rattle.board.specs.History.{nodes-of, Carried-throughout}
 use Rattle.textline.specs.declared.events.Event.{Event}
 use Rattle.textline.specs.declared.events.SizeLines.{SizeLines}
 use Rattle.textline.specs.declared.faults.FormFault.the-variants.{TooLong, BadLine}
@@ -53,7 +53,8 @@ pub data Runs (bs : List ℕ) (s : SizeLines) (z : Size) : List ℕ → Type 0 w
   uncounted : StopsAt 5 bs → Runs bs s z (badLine (BadLine 5))
   -- the line after some events is at fault, missing or extra: these were run, and no rendering has the line
   stopped : (count : ℕ) (done : List Event) (rest : List ℕ) (line : ℕ) → Reaches bs s count done rest
-      → line ≡ 6 + length done → StopsAt line bs → RendersNone bs → Runs bs s z (answered z done ++ badLine (BadLine line))
+      → line ≡ 6 + length done → StopsAt line bs → RendersNone bs
+      → Runs bs s z (answered z done ++ badLine (BadLine line))
   -- a whole schedule
   finished : (es : List Event) → Renders bs s es → Runs bs s z (answered z es ++ queued z es)
 
@@ -64,8 +65,8 @@ pub data Prints (bs : List ℕ) : List ℕ → Type 0 where
   -- one of the four size lines is at fault
   unsized : (line : ℕ) → length bs ≤ 65535 → line ≤ 4 → StopsAt line bs → Prints bs (badLine (BadLine line))
   -- no board has these sizes, whatever follows them
-  refused : (s : SizeLines) (after : List ℕ) (e : SizeFault) → length bs ≤ 65535 → SizeSection bs s after → asks s ≡ Err e
-      → Prints bs (sizesLine e)
+  refused : (s : SizeLines) (after : List ℕ) (e : SizeFault) → length bs ≤ 65535 → SizeSection bs s after
+      → asks s ≡ Err e → Prints bs (sizesLine e)
   -- there is such a board, and the events are run on it
   ran : (s : SizeLines) (after : List ℕ) (z : Size) (x : List ℕ) → length bs ≤ 65535 → SizeSection bs s after
       → asks s ≡ Ok z → Runs bs s z x → Prints bs x
@@ -76,4 +77,4 @@ OnePrint = (bs x y : List ℕ) → Prints bs x → Prints bs y → x ≡ y
 
 -- the promise of the board stands before the first event and after each, on every board that size lines ask for
 abbrev pub PromiseStands : Type 0
-PromiseStands = (s : SizeLines) (z : Size) (es : List Event) → asks s ≡ Ok z → Stands-throughout z (calls-of es)
+PromiseStands = (s : SizeLines) (z : Size) (es : List Event) → asks s ≡ Ok z → Carried-throughout z [] (calls-of es)

@@ -29,12 +29,15 @@ use stages::answer::Answer;
 use std::alloc::AllocError;
 use std::alloc::Global;
 
+// The number of the first event, as it is printed.
+const FIRST: u16 = 1;
+
 // The number that is printed for the event that is number `index`, counted from 0.
 fn number_of(index: u16) -> u16
     requires { ⌜ index < 65535 ⌝ }
     ensures { λ r. ⌜ r ≡ index + 1 ⌝ }
 {
-    index + 1
+    index + FIRST
 }
 
 // Runs an event on a board.

@@ -57,9 +57,11 @@ pub record Begun (bs : List ℕ) (done : List (List ℕ)) (rest : List ℕ) : Ty
   pub whole : bs ≡ textOf done ++ rest
   pub lines : All NoEnd done
 
+-- no line is known yet
 pub begun-none : (bs : List ℕ) → Begun bs [] bs
 begun-none bs = record { whole = refl; lines = tt }
 
+-- one line more at the end of the lines that are known
 line-more : (done : List (List ℕ)) (l rest after : List ℕ) → rest ≡ l ++ (10 ∷ after)
     → textOf done ++ rest ≡ textOf (done ++ l ∷ []) ++ after
 line-more [] l rest after e = e ∙ sym (append-assoc l (10 ∷ []) after)
@@ -86,6 +88,7 @@ pub record Next (done : List (List ℕ)) (rest : List ℕ) : Type 0 where
   pub same : take (length done) (linesOf sizes events) ≡ done
   pub goes : rest ≡ getD (linesOf sizes events) (length done) [] ++ (10 ∷ after)
 
+-- the text of one line among several
 one-line : (L : List (List ℕ)) (n : ℕ) (after : List ℕ) → n < length L
     → textOf (drop n (take (n + 1) L)) ++ after ≡ getD L n [] ++ (10 ∷ after)
 one-line L n after lt =
@@ -122,7 +125,7 @@ fits-next {bs} {done} {rest} b f =
       goes = k .1;
     }
 
--- the next line is the first at which the text stops to be that of a schedule
+-- the next line is the first at which the text stops being that of a schedule
 pub stops : {bs : List ℕ} {done : List (List ℕ)} {rest : List ℕ} (line : ℕ) → line ≡ length done + 1
     → Begun bs done rest
     → Fits (length done) bs → (Next done rest → ⊥) → StopsAt line bs

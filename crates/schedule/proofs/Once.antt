@@ -32,6 +32,7 @@ told l ns =
     (cond (eqb l 115) (Step (at 0))
     (cond (eqb l 120) (Abort (at 0)) (Reuse (at 0) (at 1) (at 2) (at 3) (at 4) (at 5))))))))
 
+-- an event is told from its letter and its numbers
 told-is : (e : Event) → told (letter e) (numbersOf e) ≡ e
 unfolding told
 told-is (Read card toggle node) = refl
@@ -43,6 +44,7 @@ told-is (Step card) = refl
 told-is (Abort card) = refl
 told-is (Reuse card node next prev state spin) = refl
 
+-- the text of several numbers begins with the first
 field : (n : ℕ) (ns : List ℕ) → n < 65536 → Field (spelled (n ∷ ns)) n (spelled ns)
 field n ns h = record { small = h; whole = refl; stops = stops-spelled ns }
 
@@ -68,6 +70,7 @@ one-event a b p q e =
     let n = same-numbers (numbersOf a) (numbersOf b) p q s in
     sym (told-is a) ∙ (λ i. told (l i) (n i)) ∙ told-is b
 
+-- events can be told from their lines
 same-events : (es fs : List Event) → All (λ e. Small (numbersOf e)) es → All (λ e. Small (numbersOf e)) fs
     → map written es ≡ map written fs → es ≡ fs
 same-events [] [] p q e = refl

@@ -35,6 +35,7 @@ pub record Progress (bs : List ℕ) (s : SizeLines) (count : ℕ) (done : List E
   pub events : All (λ e. Small (numbersOf e)) done
   pub begun : Begun bs (frontOf s count done) rest
 
+-- the size section is four lines that are known
 begun-sizes : (bs head : List ℕ) (s : SizeLines) → SizeSection bs s head → Begun bs (sizesOf s) head
 begun-sizes bs head s h = record {
   whole = h .whole;
@@ -97,6 +98,7 @@ progress-more {bs} {s} {count} {done} {rest} e after p lt line = record {
       (begun-more (written e) after (p .begun) (no-end-written e (line .small)) (line .whole));
 }
 
+-- a text is its first k lines and the others
 text-split : (ls : List (List ℕ)) (k : ℕ) → textOf ls ≡ textOf (take k ls) ++ textOf (drop k ls)
 text-split ls zero = refl
 text-split [] (suc k) = refl
@@ -147,10 +149,12 @@ count-stops bs head s section none =
     let few = x .sound .few in
     none (length (x .events)) (x .after) (x .sound .few) (record { small = omega arith; whole = x .goes }))
 
+-- what holds of an event holds of its copies
 all-same : (P : Event → Type 0) (n : ℕ) (e : Event) → P e → All P (replicate n e)
 all-same P zero e h = tt
 all-same P (suc n) e h = (h, all-same P n e h)
 
+-- the first lines of a schedule are those up to the last of `done`
 take-front : (s : SizeLines) (count : ℕ) (done more : List Event) → length (done ++ more) ≡ count
     → take (length (frontOf s count done)) (linesOf s (done ++ more)) ≡ frontOf s count done
 take-front s count done more is =

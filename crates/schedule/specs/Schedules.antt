@@ -58,7 +58,7 @@ pub record Fits (k : ℕ) (bs : List ℕ) : Type 0 where
   pub enough : k ≤ length (linesOf sizes events)
   pub whole : bs ≡ textOf (take k (linesOf sizes events)) ++ after
 
--- `line` is the first line of bs at which it stops to be the text of a schedule:
+-- `line` is the first line of bs at which it stops being the text of a schedule:
 -- the lines before it are those of some schedule, and with it they are those of none
 pub record StopsAt (line : ℕ) (bs : List ℕ) : Type 0 where
   pub before : ℕ

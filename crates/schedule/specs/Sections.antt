@@ -26,7 +26,7 @@ TakesNumber bs line (Ok p) = NumberLine bs (p .0) (p .1 .now)
 TakesNumber bs line (Err f) = (f ≡ BadLine line) × ((n : ℕ) (after : List ℕ) → NumberLine bs n after → ⊥)
 
 -- the sizes, of a text of at most 65,535 bytes; too long is said before all else,
--- and a bad line is the first at which the text stops to be that of a schedule
+-- and a bad line is the first at which the text stops being that of a schedule
 abbrev pub TakesSizes : List ℕ → Result (SizeLines × RefT (List ℕ)) FormFault → Type 0
 TakesSizes bs (Ok p) = (length bs ≤ 65535) × SizeSection bs (p .0) (p .1 .now)
 TakesSizes bs (Err TooLong) = 65535 < length bs

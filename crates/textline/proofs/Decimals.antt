@@ -20,9 +20,11 @@ use Rattle.std.proofs.shelf.Text.{utf8-from-ascii}
 use Rattle.std.proofs.str.Laws.{order}
 use Rattle.textline.specs.Numbers.{Found, Numeral, StartsPlain}
 
+-- the digits and the value of a text, as the library reads them
 pub own : Numerals (Digits 10) (value 10)
 own = numerals-by-value (Digits 10) tells-digits
 
+-- a text of a number that begins with a zero is that zero
 one-zero : (n : ℕ) → n < 65536 → getD (decimal n) 0 0 ≡ 48 → length (decimal n) ≡ 1
 one-zero n h z =
     ⊎-elim (λ p. absurd (omega (arith, first-decimal n p (omega arith))))

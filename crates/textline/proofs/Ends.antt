@@ -29,6 +29,7 @@ cut-at s i lt here none = rw (sub-zero, take-rest) (record {
       none k below (sym (getD-take i s k 0 below) ∙ e);
 })
 
+-- a text without a line end has none behind its first byte
 tail-free : (b : ℕ) (l : List ℕ) → NoEnd (b ∷ l) → NoEnd l
 tail-free b l h k lt e = h (suc k) (omega arith) e
 
@@ -56,19 +57,23 @@ no-cut s line after none whole =
 abbrev Inked : List ℕ → Type 0
 Inked bs = All (λ b. 10 < b) bs
 
+-- no line ends in bytes above 10
 no-end-inked : (bs : List ℕ) → Inked bs → NoEnd bs
 no-end-inked bs h k lt e = omega (arith, all-getD (λ b. 10 < b) bs k 0 lt h)
 
+-- digits are above 10
 inked-decimal : (n : ℕ) → n < 65536 → Inked (decimal n)
 inked-decimal n lt =
     all-from-getD (λ b. 10 < b) (decimal n) 0
     (λ i h. omega (arith, digit-at (decimal n) i (digits-decimal own n (omega arith)) h))
 
+-- spaces and digits are above 10
 inked-spelled : (ns : List ℕ) → Small ns → Inked (spelled ns)
 inked-spelled [] h = tt
 inked-spelled (n ∷ ns) h =
     (omega arith, all-append (λ b. 10 < b) (decimal n) (spelled ns) (inked-decimal n (h .0)) (inked-spelled ns (h .1)))
 
+-- letters are above 10
 inked-letter : (e : Event) → 10 < letter e
 inked-letter (Read card toggle node) = omega arith
 inked-letter (Write card toggle node) = omega arith

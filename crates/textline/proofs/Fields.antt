@@ -35,6 +35,7 @@ run-is bs ds after k r e d st =
     (order (length ds) k))
     (order k (length ds))
 
+-- the run of digits is the text of the number
 pub front-is : (bs after : List ℕ) (k n : ℕ) → Run bs k → n < 65536 → bs ≡ decimal n ++ after → Stops after
     → take k bs ≡ decimal n
 front-is bs after k n r lt e st =
@@ -66,6 +67,7 @@ same-after bs a b n m f g =
     sym (drop-at (decimal n) a (length (decimal n)) refl) ∙ ap (drop (length (decimal n))) e
     ∙ drop-at (decimal m) b (length (decimal n)) (sym long)
 
+-- and gives one number
 pub same-first : (bs a b : List ℕ) (n m : ℕ) → Field bs n a → Field bs m b → n ≡ m
 same-first bs a b n m f g =
     let p = f .small in
@@ -76,10 +78,12 @@ same-first bs a b n m f g =
     let e : decimal n ++ a ≡ decimal m ++ a = cc in
     same-from-decimal n m (omega arith) (omega arith) (cancel (decimal n) (decimal m) a e)
 
+-- no digit stands before the first of several numbers
 pub stops-spelled : (ns : List ℕ) → Stops (spelled ns)
 stops-spelled [] h = omega (arith, h)
 stops-spelled (n ∷ ns) h = omega (arith, h)
 
+-- one number more at the end
 pub spelled-push : (ns : List ℕ) (n : ℕ) (r : List ℕ)
     → spelled (ns ++ n ∷ []) ++ r ≡ spelled ns ++ (32 ∷ (decimal n ++ r))
 spelled-push [] n r = ap (λ l. 32 ∷ l) (append-assoc (decimal n) [] r)
@@ -95,9 +99,11 @@ pub record Got (s : List ℕ) (i : ℕ) (out rest : List ℕ) : Type 0 where
   pub whole : s ≡ spelled (take i out) ++ rest
   pub only : (ns : List ℕ) → Small ns → i ≤ length ns → s ≡ spelled ns → rest ≡ spelled (drop i ns)
 
+-- before the first number
 pub got-none : (s out : List ℕ) → Got s 0 out s
 got-none s out = record { small = tt; whole = refl; only = λ ns small le e. e }
 
+-- each of several numbers is at most 65,535
 small-at : (ns : List ℕ) (i : ℕ) → Small ns → i < length ns → getD ns i 0 < 65536
 small-at ns i h lt = all-getD (λ n. n < 65536) ns i 0 lt h
 
@@ -111,6 +117,7 @@ next-field ns rest i small lt e =
       stops = stops-spelled (drop (i + 1) ns);
     }
 
+-- one number more is taken
 pub got-more : (s out rest after : List ℕ) (i n : ℕ) → i < length out → Got s i out rest → Field rest n after
     → Got s (i + 1) (set out i n) after
 got-more s out rest after i n lt g f = record {
@@ -122,6 +129,7 @@ got-more s out rest after i n lt g f = record {
   small = subst Small (sym (take-more-set out i n lt)) (all-push (λ k. k < 65536) (take i out) n (g .small) (f .small));
 }
 
+-- all numbers are taken, and nothing is left
 pub got-all : (s out rest : List ℕ) (n i : ℕ) → i ≡ n → length out ≡ n → length rest ≡ 0 → Got s i out rest
     → Spells n s out
 got-all s out [] n i end len z got =
@@ -130,6 +138,7 @@ got-all s out [] n i end len z got =
     record { long = len; small = subst Small all (g .small); text = g .whole ∙ append-nil _ ∙ ap spelled all }
 got-all s out (x ∷ rest) n i end len z g = absurd (omega arith)
 
+-- all numbers are taken, and something is left: it is no text of so many
 pub got-extra : (s out rest : List ℕ) (n i : ℕ) → i ≡ n → Got s i out rest → (length rest ≡ 0 → ⊥) → (ns : List ℕ)
     → Spells n s ns → ⊥
 got-extra s out rest n i end got some ns h =

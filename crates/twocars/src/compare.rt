@@ -18,14 +18,6 @@ pub(crate) struct Both {
     in_place: InPlace,
 }
 
-// The value of an answer, or the number of a refusal.
-fn number(answer: Result<u16, MemoryFault>) -> u16 {
-    match answer {
-        Ok(value) => value,
-        Err(fault) => fault.refusal.number(),
-    }
-}
-
 // One memory's answer to a call, what the counter's cell then holds, and what stands there.
 fn say(
     rt: LibcRuntime,
@@ -54,6 +46,21 @@ fn say(
             rt,
             "  {name} ok; the cell holds {cell}, and {stands} stands"
         ),
+    }
+}
+
+// The same, unless the counter is a cell that the memory lacks.
+fn say_seen(
+    rt: LibcRuntime,
+    name: &str,
+    call: MemoryCall,
+    answer: Result<u16, MemoryFault>,
+    held: Result<u16, MemoryFault>,
+    stands: Result<u16, MemoryFault>,
+) -> io::Result<()> {
+    match (held, stands) {
+        (Ok(cell), Ok(value)) => say(rt, name, call, answer, cell, value),
+        (_, _) => println!(rt, "  {name} has no such counter"),
     }
 }
 
@@ -89,13 +96,13 @@ impl Both {
     fn make(&mut self, rt: LibcRuntime, call: MemoryCall) -> io::Result<()> {
         announce(rt, call)?;
         let aside = perform(&mut self.aside, call);
-        let held = number(self.aside.held(COUNTER));
-        let stands = number(self.aside.look(COUNTER));
-        say(rt, "set aside:", call, aside, held, stands)?;
+        let held = self.aside.held(COUNTER);
+        let stands = self.aside.look(COUNTER);
+        say_seen(rt, "set aside:", call, aside, held, stands)?;
         let in_place = perform(&mut self.in_place, call);
-        let held = number(self.in_place.held(COUNTER));
-        let stands = number(self.in_place.look(COUNTER));
-        say(rt, "in place: ", call, in_place, held, stands)
+        let held = self.in_place.held(COUNTER);
+        let stands = self.in_place.look(COUNTER);
+        say_seen(rt, "in place: ", call, in_place, held, stands)
     }
 }
 

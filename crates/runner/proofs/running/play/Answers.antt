@@ -16,13 +16,14 @@ returns-in-Break-board g c =
     let sizes = c .in-Continue-sizes .ensures tt in
     fails-sizes (g .M·Memory .meaning) _ _ _ _ _ (c .from-residual-in-Break-board .ensures .1) refl
     (refused (c .in-Continue-sizes .sizes) _ _ (sizes .0) (sizes .1)
-    (not-sized (g .M·Memory .meaning) (c .args .memory) (c .in-Continue-sizes .sizes) _ (c .in-Break-board .ensures tt .gives)))
+    (not-sized (g .M·Memory .meaning) (c .args .memory) (c .in-Continue-sizes .sizes) _
+    (c .in-Break-board .ensures tt .gives)))
 
 pub returns-in-Break-count : need.returns-in-Break-count
 returns-in-Break-count g c =
     let sizes = c .in-Continue-sizes .ensures tt in
-    let made = sized-up (g .M·Memory .meaning) (c .args .memory) (c .in-Continue-sizes .sizes) (c .in-Continue-board .board)
-    (c .in-Continue-board .ensures tt .gives) in
+    let made = sized-up (g .M·Memory .meaning) (c .args .memory) (c .in-Continue-sizes .sizes)
+    (c .in-Continue-board .board) (c .in-Continue-board .ensures tt .gives) in
     let f = c .in-Break-count .ensures tt in
     fails (g .M·Memory .meaning) _ _ _ [] _ _ (c .from-residual-in-Break-count .ensures .1) (sym (append-nil _))
     (bad-count _ _ (c .in-Continue-sizes .sizes) _ _ (sizes .0) (sizes .1) (made .0) (f .0) (f .1))
@@ -30,8 +31,8 @@ returns-in-Break-count g c =
 pub loop-index-holds : need.loop-index-holds
 loop-index-holds g c =
     let sizes = c .in-Continue-sizes .ensures tt in
-    let made = sized-up (g .M·Memory .meaning) (c .args .memory) (c .in-Continue-sizes .sizes) (c .in-Continue-board .board)
-    (c .in-Continue-board .ensures tt .gives) in
+    let made = sized-up (g .M·Memory .meaning) (c .args .memory) (c .in-Continue-sizes .sizes)
+    (c .in-Continue-board .board) (c .in-Continue-board .ensures tt .gives) in
     let count = c .in-Continue-count .ensures tt in
     playing-none _ _ _ _ (c .in-Continue-sizes .sizes) _ _ _ (sizes .0) (made .0) (made .1)
     (c .in-Continue-board .ensures tt .promise) (sizes .1) (count .0) (count .1)

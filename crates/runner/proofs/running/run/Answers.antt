@@ -31,7 +31,8 @@ returns g c =
     record {
       prints =
           prints (g .M·Memory .meaning) (c .args .text .now) (string-bytes (c .new-out .result)) told _ last
-          (c .play-end .result) (c .new-out .ensures .bytes) (c .play-end .ensures) (c .in-Continue-last-line .ensures tt)
+          (c .play-end .result) (c .new-out .ensures .bytes) (c .play-end .ensures)
+          (c .in-Continue-last-line .ensures tt)
           (c .in-Continue-push-str .ensures tt .bytes ∙ ap (λ l. told ++ l) (c .as-str .ensures .value));
       one = one-print;
       promise = promise-stands;

@@ -2,7 +2,7 @@ use mathlib.Core.Path.{ap, _∙_}
 use mathlib.Core.List.{map}
 use lib.ListN.{set}
 use lib.Seq.{map-set, set-set}
-use Rattle.memory.specs.Meaning.{Meaning, struck}
+use Rattle.memory.specs.Meaning.{struck}
 use Rattle.deferred.specs.Deferral.{tx-in}
 use Rattle.deferred.proofs.deferred.Deferred.serve.Needs as need
 

@@ -4,7 +4,6 @@ use mathlib.Core.Bool.{true, false}
 use Prim.Native.Nat.{ℕ, _<_}
 use native.Mathlib.Omega.{arith}
 use borrow.Author.Needs.{needs}
-use lib.ListN.{length}
 use lib.Seq.{take-set-lt}
 use Rattle.std.specs.Options.{isSome}
 use Rattle.std.specs.declared.option.Option.{Option}
@@ -13,6 +12,7 @@ use Rattle.std.proofs.shelf.Lists.{length-take-le}
 use Rattle.std.proofs.shelf.Tests.{cond-true, cond-false}
 use Rattle.memory.specs.declared.write.Write.{Write}
 use Rattle.memory.specs.Meaning.{seek, wrote}
+use Rattle.memory.proofs.Isolation.{clash}
 use Rattle.memory.proofs.Rooms.{room-more}
 use Rattle.memory.proofs.Seeks.{seek-has, found-below}
 use Rattle.deferred.specs.declared.log.Log.{Log}
@@ -35,6 +35,7 @@ returns-in-Some c =
           ∙ ap Some
           (found-replaced cell (c .args .value) (writes-of l) i e
           ∙ sym (take-set-lt (l .written) (l .writes) i _ h));
+      kept = λ e. clash true refl e;
       marks = refl;
     }
 
@@ -51,5 +52,6 @@ returns c =
       writes =
           cond-false _ _ _ (fresh l _ _ _ (c .writes .ensures .value) (c .find .ensures .first) (c .in-rest .is))
           ∙ room-more (l .writes) (l .written) _ (search needs) (search needs);
+      kept = λ e. clash true refl e;
       marks = refl;
     }

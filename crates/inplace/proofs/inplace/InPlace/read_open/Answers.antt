@@ -27,7 +27,7 @@ returns-then-not-mark c =
     let v : value-in (map (written (e .cells)) us) cell ≡ None =
     unwritten-value (e .cells) us cell (sym (c .wrote .ensures) ∙ c .if-wrote .left) in
     let m : marking (marks-in (c .args .log)) cell ≡ None =
-    c .mark .ensures ∙ cond-false _ _ _ (c .if-not-mark .taken) in
+    c .mark .ensures .marks ∙ cond-false _ _ _ (c .if-not-mark .taken) in
     record { answer = rw (v, m) (ap Err (c .at .ensures)); after = rw (v, m) (c .restore .ensures) }
 
 pub returns : need.returns
@@ -38,7 +38,7 @@ returns c =
     let v : value-in (map (written (e .cells)) us) cell ≡ None =
     unwritten-value (e .cells) us cell (sym (c .wrote .ensures) ∙ c .if-wrote .left) in
     let m : marking (marks-in (c .args .log)) cell ≡ Some (marks-of (c .mark .last .self)) =
-    c .mark .ensures ∙ cond-true _ _ _ (c .if-not-mark .left) in
+    c .mark .ensures .marks ∙ cond-true _ _ _ (c .if-not-mark .left) in
     record {
       answer = rw (v, m) (ap Ok (c .standing-value .ensures));
       after = rw (v, m) (c .serve-2 .ensures .after);
