@@ -33,3 +33,4 @@ pub mod Promised
 pub mod Book
 pub mod History
 pub mod Sizes
+pub mod Resends

@@ -1,4 +1,5 @@
 pub mod Book
 pub mod Promise
+pub mod Resends
 pub mod History
 pub mod Boards
