@@ -1,3 +1,2 @@
 mod Writes
-mod Logs
 mod Own

@@ -1,7 +1,7 @@
 -- An access in two parts: what it makes of the card's own transaction, and then of the others'.
 use Rattle.std.proofs.Common.{◌≡◌, ℕ, ◌<◌, true, List, map, length, get_or, set, Some, None, Ok, Err, Option, Result, sym, refl, ap, ◌∙◌, get_or-set_same, set-set}
 use lib.Seq.{map-set, set-get_or}
-use Rattle.std.proofs.lemmas.List.{get_or-map, length-map}
+use Rattle.std.proofs.lemmas.List.{length-map}
 use Rattle.std.proofs.lemmas.Bool.{cond-true}
 use Rattle.memory.specs.declared.access.Access.{Access}
 use Rattle.memory.specs.declared.access.Access.TheVariants.{Reads, Writes}
@@ -11,9 +11,8 @@ use Rattle.memory.specs.declared.write.Write.{Write}
 use Rattle.memory.specs.Meaning.{Meaning, Outcome, Tx, none, live, doomed, struck, standing, marking, recording}
 use Rattle.memory.specs.Meaning.{accepted, refused, served, with_tx, value_in, tx_of, in_range, reading, writing}
 use Rattle.memory.specs.Meaning.{read_at, read_open, read_marking, write_at, write_open}
-use Rattle.deferred.specs.declared.transaction.Transaction.{Transaction}
-use Rattle.deferred.specs.declared.deferred.Deferred.{Deferred}
-use Rattle.deferred.specs.Deferral.{tx_in, meaning_of}
+use Rattle.deferred.specs.declared.log.Transaction.{Transaction}
+use Rattle.deferred.specs.Deferral.{tx_in}
 use Rattle.deferred.specs.Own.{own_read, own_read_open, own_marking, own_write, own_write_open}
 
 -- the whole access, by the answer of the first part and the card's transaction after it
@@ -34,7 +33,6 @@ marking_finished : (m : Meaning) (card cell : ℕ) (ws : List Write) (o : Option
 marking_finished m card cell ws (Some ms) = refl
 marking_finished m card cell ws None = refl
 
--- a read in an open transaction
 read_open_finished : (m : Meaning) (card cell : ℕ) (ms : List ℕ) (ws : List Write) (o : Option ℕ)
     → let p = own_read_open ms ws cell (standing m cell) o in
     read_open m card cell ms ws o ≡ finished Reads m card cell p.1 p.0
@@ -42,14 +40,13 @@ read_open_finished m card cell ms ws (Some v) = refl
 read_open_finished m card cell ms ws None = marking_finished m card cell ws (marking ms cell)
 
 -- a read is its two parts
-read_finished : (m : Meaning) (card cell : ℕ) (t : Tx) → get_or m.txs card none ≡ t
+pub read_finished : (m : Meaning) (card cell : ℕ) (t : Tx) → get_or m.txs card none ≡ t
     → let p = own_read t cell (standing m cell) in
     read_at m card cell t ≡ finished Reads m card cell p.1 p.0
 read_finished m card cell none e = ap (λ x. refused NoTransaction card cell x) (same_tx m card none e)
 read_finished m card cell (live ms ws) e = read_open_finished m card cell ms ws (value_in ws cell)
 read_finished m card cell doomed e = refl
 
--- a write in an open transaction
 write_open_finished : (m : Meaning) (card cell : ℕ) (ms : List ℕ) (o : Option (List Write))
     → let p = own_write_open ms o in
     write_open m card cell ms o ≡ finished Writes m card cell p.1 p.0
@@ -57,7 +54,7 @@ write_open_finished m card cell ms (Some ws) = refl
 write_open_finished m card cell ms None = refl
 
 -- a write is its two parts
-write_finished : (m : Meaning) (card cell value : ℕ) (t : Tx) → get_or m.txs card none ≡ t
+pub write_finished : (m : Meaning) (card cell value : ℕ) (t : Tx) → get_or m.txs card none ≡ t
     → let p = own_write t cell value in
     write_at m card cell value t ≡ finished Writes m card cell p.1 p.0
 write_finished m card cell value none e = ap (λ x. refused NoTransaction card cell x) (same_tx m card none e)
@@ -65,7 +62,7 @@ write_finished m card cell value (live ms ws) e = write_open_finished m card cel
 write_finished m card cell value doomed e = refl
 
 -- the others are struck alike whether the card's own transaction changed before or changes after
-others_after_own : (how : Access) (cell card : ℕ) (ts : List Tx) (t : Tx) → card < length ts
+pub others_after_own : (how : Access) (cell card : ℕ) (ts : List Tx) (t : Tx) → card < length ts
     → set (map (struck how cell) (set ts card t)) card (get_or (set ts card t) card none)
     ≡ set (map (struck how cell) ts) card t
 others_after_own how cell card ts t h =
@@ -74,7 +71,7 @@ others_after_own how cell card ts t h =
     ∙ ap (set (map (struck how cell) ts) card) (get_or-set_same ts card t none h))
 
 -- the same of the records
-struck_after_own : (how : Access) (cell card : ℕ) (txs : List Transaction) (x : Transaction) → card < length txs
+pub struck_after_own : (how : Access) (cell card : ℕ) (txs : List Transaction) (x : Transaction) → card < length txs
     → set (map (struck how cell) (map tx_in (set txs card x))) card (get_or (map tx_in (set txs card x)) card none)
     ≡ set (map (struck how cell) (map tx_in txs)) card (tx_in x)
 struck_after_own how cell card txs x h =
@@ -82,7 +79,7 @@ struck_after_own how cell card txs x h =
     ∙ others_after_own how cell card (map tx_in txs) (tx_in x) (rw (length-map txs tx_in) h)
 
 -- a read in range, by its first part
-reading_by : (m : Meaning) (card cell : ℕ) (t : Tx) (r : Result ℕ Refusal) → in_range card cell ≡ true
+pub reading_by : (m : Meaning) (card cell : ℕ) (t : Tx) (r : Result ℕ Refusal) → in_range card cell ≡ true
     → (r, t) ≡ own_read (tx_of m card) cell (standing m cell)
     → reading m card cell ≡ finished Reads m card cell t r
 reading_by m card cell t r h e =
@@ -90,55 +87,10 @@ reading_by m card cell t r h e =
     ∙ (read_finished m card cell (tx_of m card) refl ∙ ap (λ p. finished Reads m card cell p.1 p.0) (sym e))
 
 -- a write in range, by its first part
-writing_by : (m : Meaning) (card cell value : ℕ) (t : Tx) (r : Result (Unit {0}) Refusal)
+pub writing_by : (m : Meaning) (card cell value : ℕ) (t : Tx) (r : Result (Unit {0}) Refusal)
     → in_range card cell ≡ true → (r, t) ≡ own_write (tx_of m card) cell value
     → writing m card cell value ≡ finished Writes m card cell t r
 writing_by m card cell value t r h e =
     cond-true _ _ _ h
     ∙ (write_finished m card cell value (tx_of m card) refl
     ∙ ap (λ p. finished Writes m card cell p.1 p.0) (sym e))
-
--- An access of a memory: `old` is the card's record before it, `new` the one that it made of it.
-module _ (d : Deferred) (card cell : ℕ) (old new : Transaction) (h : card < length d.txs) where
-  -- the card's transaction, by its record
-  own_tx : tx_in (get_or d.txs card old) ≡ tx_of (meaning_of d) card
-  own_tx = sym (get_or-map tx_in d.txs card old none h)
-
-  -- a read
-  pub read_by : (r : Result ℕ Refusal) → in_range card cell ≡ true
-      → (r, tx_in new) ≡ own_read (tx_in (get_or d.txs card old)) cell (standing (meaning_of d) cell)
-      → reading (meaning_of d) card cell ≡ finished Reads (meaning_of d) card cell (tx_in new) r
-  read_by r range e =
-      reading_by (meaning_of d) card cell (tx_in new) r range
-      (e ∙ ap (λ t. own_read t cell (standing (meaning_of d) cell)) own_tx)
-
-  -- a write
-  pub write_by : (value : ℕ) (r : Result (Unit {0}) Refusal) → in_range card cell ≡ true
-      → (r, tx_in new) ≡ own_write (tx_in (get_or d.txs card old)) cell value
-      → writing (meaning_of d) card cell value ≡ finished Writes (meaning_of d) card cell (tx_in new) r
-  write_by value r range e =
-      writing_by (meaning_of d) card cell value (tx_in new) r range (e ∙ ap (λ t. own_write t cell value) own_tx)
-
--- What such an access answers and leaves.
-module _ (d : Deferred) (card cell : ℕ) (new : Transaction) (h : card < length d.txs) where
-  -- one that is accepted: `ts` are the transactions once the others are doomed
-  pub accepted_by : {X : Type 0} (how : Access) (x : X) (o : Outcome X) (ts : List Tx)
-      → o ≡ finished how (meaning_of d) card cell (tx_in new) (Ok x)
-      → ts ≡ set (map (struck how cell) (map tx_in (set d.txs card new))) card
-      (get_or (map tx_in (set d.txs card new)) card none)
-      → (Ok x ≡ o.answer) × (record { cells = d.cells; txs = ts } ≡ o.after)
-  accepted_by how x o ts e doomed-others = (
-    sym (ap (λ p. p.answer) e),
-    ap (λ l. record { cells = d.cells; txs = l }) (doomed-others ∙ struck_after_own how cell card d.txs new h)
-        ∙ sym (ap (λ p. p.after) e),
-  )
-
-  -- one that is refused
-  pub refused_by : {X : Type 0} (how : Access) (f : Refusal) (o : Outcome X)
-      → o ≡ finished how (meaning_of d) card cell (tx_in new) (Err f)
-      → (Err (record { refusal = f; card = card; cell = cell }) ≡ o.answer)
-      × (record { cells = d.cells; txs = map tx_in (set d.txs card new) } ≡ o.after)
-  refused_by how f o e = (
-    sym (ap (λ p. p.answer) e),
-    ap (λ l. record { cells = d.cells; txs = l }) (map-set tx_in d.txs card new) ∙ sym (ap (λ p. p.after) e),
-  )

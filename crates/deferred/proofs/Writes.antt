@@ -1,11 +1,10 @@
 -- What the search finds among writes.
-use Rattle.std.proofs.Common.{◌≡◌, ℕ, List, ◌∷◌, get_or, set, Some, None, refl, ap, ◌∙◌}
+use Rattle.std.proofs.Common.{◌≡◌, ℕ, ◌+◌, Bool, true, false, cond, eqb, List, [], ◌∷◌, get_or, set, Some, None, Option, refl, ap, ◌∙◌, arith}
 use Rattle.std.proofs.lemmas.Bool.{cond-true, cond-false}
 use Rattle.memory.specs.declared.write.Write.{Write}
 use Rattle.memory.specs.Meaning.{seek, value_in, replaced}
-use Rattle.memory.proofs.Seeks.{found, none_found}
+use Rattle.memory.proofs.Seeks.{found}
 
--- the cell of a write
 abbrev pub place : Write → ℕ
 place w = w.cell
 
@@ -26,7 +25,14 @@ module _ (cell : ℕ) where
       (λ w ws q. cond-true _ _ _ q)
       (λ w ws j q h. cond-false _ _ _ q ∙ ap (λ l. w ∷ l) h)
 
+  none_step : (k v : ℕ) (s t : Option ℕ) (b : Bool) → cond b (Some k) s ≡ None → (s ≡ None → t ≡ None)
+      → cond b (Some v) t ≡ None
+  none_step k v s t true e r = let z : ◌≡◌ {A = ℕ} 0 1 = cc in absurd (omega arith)
+  none_step k v s t false e r = r e
+
   -- where no write is found, no value is recorded
   pub none_value : (k : ℕ) (ws : List Write) → seek place cell k ws ≡ None → value_in ws cell ≡ None
-  none_value =
-      none_found place cell (λ ws. value_in ws cell ≡ None) refl (λ w ws q h. cond-false _ _ _ q ∙ h)
+  none_value k [] e = refl
+  none_value k (w ∷ ws) e =
+      none_step k w.value (seek place cell (k + 1) ws) (value_in ws cell) (eqb w.cell cell) e
+      (none_value (k + 1) ws)

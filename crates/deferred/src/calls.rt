@@ -1,11 +1,11 @@
 ghost use Rattle.std.specs.Prelude.{◌≡◌, ◌<◌};
 ghost use Rattle.memory.specs.Meaning.{cleared, looking, with_tx};
-ghost use Rattle.deferred.specs.Deferral.{meaning_of, blank_tx, Fetched};
+ghost use Rattle.deferred.specs.Deferral.{tx_in, meaning_of, Fetched};
 
 use crate::deferred::Deferred;
 use crate::doom::doom;
 use crate::land::land;
-use crate::transaction::{State, Transaction};
+use crate::log::{Log, Transaction};
 use memory::access::Access;
 use memory::fault::{MemoryFault, Refusal};
 use memory::memory::Memory;
@@ -18,7 +18,7 @@ impl Deferred {
     {
         Deferred {
             cells: [0u16; 137],
-            txs: [Transaction::new(State::Closed); 8],
+            txs: [Transaction::Closed; 8],
         }
     }
 
@@ -30,20 +30,20 @@ impl Deferred {
         Ok(self.cells[cell])
     }
 
-    // The state of the card's transaction, for a call at a cell.
-    fn state(&self, card: usize, cell: usize) -> Result<State, MemoryFault>
+    // The card's transaction, for a call at a cell.
+    fn transaction(&self, card: usize, cell: usize) -> Result<Transaction, MemoryFault>
         ensures { Fetched self.now card cell result }
     {
         check_range(card, cell)?;
-        Ok(self.txs[card].state)
+        Ok(self.txs[card])
     }
 
-    // Makes the card's transaction one of the state, with an empty log.
-    fn put(&mut self, card: usize, state: State)
+    // Gives the card another transaction.
+    fn put(&mut self, card: usize, tx: Transaction)
         requires { card < 8 }
-        ensures { meaning_of self.new ≡ with_tx (meaning_of self.old) card (blank_tx state) }
+        ensures { meaning_of self.new ≡ with_tx (meaning_of self.old) card (tx_in tx) }
     {
-        self.txs[card].reset(state);
+        self.txs[card] = tx;
     }
 }
 
@@ -52,7 +52,7 @@ impl Memory for Deferred {
 
     fn clear(&mut self) {
         self.cells = [0u16; 137];
-        self.txs = [Transaction::new(State::Closed); 8];
+        self.txs = [Transaction::Closed; 8];
     }
 
     fn look(&self, cell: usize) -> Result<u16, MemoryFault> {
@@ -60,34 +60,34 @@ impl Memory for Deferred {
     }
 
     fn load(&mut self, card: usize, cell: usize) -> Result<u16, MemoryFault> {
-        match self.state(card, cell)? {
-            State::Closed => {
+        match self.transaction(card, cell)? {
+            Transaction::Closed => {
                 let value = self.cells[cell];
                 doom(&mut self.txs, card, Access::Reads, cell);
                 Ok(value)
             }
-            State::Open | State::Doomed => Err(Refusal::Already.at(card, cell)),
+            Transaction::Open(_) | Transaction::Doomed => Err(Refusal::Already.at(card, cell)),
         }
     }
 
     fn store(&mut self, card: usize, cell: usize, value: u16) -> Result<(), MemoryFault> {
-        match self.state(card, cell)? {
-            State::Closed => {
+        match self.transaction(card, cell)? {
+            Transaction::Closed => {
                 doom(&mut self.txs, card, Access::Writes, cell);
                 self.cells[cell] = value;
                 Ok(())
             }
-            State::Open | State::Doomed => Err(Refusal::Already.at(card, cell)),
+            Transaction::Open(_) | Transaction::Doomed => Err(Refusal::Already.at(card, cell)),
         }
     }
 
     fn begin(&mut self, card: usize) -> Result<(), MemoryFault> {
-        match self.state(card, 0)? {
-            State::Closed => {
-                self.put(card, State::Open);
+        match self.transaction(card, 0)? {
+            Transaction::Closed => {
+                self.put(card, Transaction::Open(Log::new()));
                 Ok(())
             }
-            State::Open | State::Doomed => Err(Refusal::Already.at(card, 0)),
+            Transaction::Open(_) | Transaction::Doomed => Err(Refusal::Already.at(card, 0)),
         }
     }
 
@@ -116,26 +116,25 @@ impl Memory for Deferred {
     }
 
     fn commit(&mut self, card: usize) -> Result<(), MemoryFault> {
-        match self.state(card, 0)? {
-            State::Closed => Err(Refusal::NoTransaction.at(card, 0)),
-            State::Open => {
-                let log = self.txs[card].log;
+        match self.transaction(card, 0)? {
+            Transaction::Closed => Err(Refusal::NoTransaction.at(card, 0)),
+            Transaction::Open(log) => {
                 land(&mut self.cells, log.writes());
-                self.put(card, State::Closed);
+                self.put(card, Transaction::Closed);
                 Ok(())
             }
-            State::Doomed => {
-                self.put(card, State::Closed);
+            Transaction::Doomed => {
+                self.put(card, Transaction::Closed);
                 Err(Refusal::Doomed.at(card, 0))
             }
         }
     }
 
     fn drop(&mut self, card: usize) -> Result<(), MemoryFault> {
-        match self.state(card, 0)? {
-            State::Closed => Err(Refusal::NoTransaction.at(card, 0)),
-            State::Open | State::Doomed => {
-                self.put(card, State::Closed);
+        match self.transaction(card, 0)? {
+            Transaction::Closed => Err(Refusal::NoTransaction.at(card, 0)),
+            Transaction::Open(_) | Transaction::Doomed => {
+                self.put(card, Transaction::Closed);
                 Ok(())
             }
         }

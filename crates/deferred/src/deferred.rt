@@ -1,4 +1,4 @@
-use crate::transaction::Transaction;
+use crate::log::Transaction;
 
 // A memory that sets written values aside until the commit. Its cells are the standing values.
 #[derive(Drop)]

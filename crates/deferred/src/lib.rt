@@ -5,5 +5,3 @@ pub(crate) mod doom;
 pub(crate) mod land;
 pub(crate) mod log;
 pub(crate) mod logging;
-pub(crate) mod transacting;
-pub(crate) mod transaction;

@@ -11,3 +11,11 @@ pub(crate) struct Log {
     pub(crate) written: u8,
     ghost few: { written ≤ 4 },
 }
+
+// A card's transaction.
+#[derive(Clone, Copy)]
+pub(crate) enum Transaction {
+    Closed,
+    Open(Log),
+    Doomed,
+}

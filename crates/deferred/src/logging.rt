@@ -1,11 +1,12 @@
 ghost use Rattle.std.specs.Prelude.{◌≡◌, false, [], length, if◌then◌else◌, Some, None};
 ghost use Rattle.memory.specs.Marks.{marks_of};
-ghost use Rattle.memory.specs.Meaning.{wrote, against, value_in, recording};
-ghost use Rattle.deferred.specs.Logs.{writes_of};
-ghost use Rattle.deferred.specs.Own.{own_read_open, read_by};
+ghost use Rattle.memory.specs.Meaning.{conflicts, wrote, value_in, recording};
+ghost use Rattle.deferred.specs.Deferral.{writes_of, tx_in};
+ghost use Rattle.deferred.specs.Own.{own_read, own_read_open, own_write, read_by};
 
-use crate::log::Log;
+use crate::log::{Log, Transaction};
 use memory::access::Access;
+use memory::fault::Refusal;
 use memory::marks::Marks;
 use memory::search::find;
 use memory::write::Write;
@@ -36,16 +37,6 @@ impl Log {
         ensures { result ≡ wrote (writes_of self.now) cell }
     {
         find(self.writes(), cell).is_some()
-    }
-
-    // Whether an access of the cell by another card goes against the log.
-    pub(crate) fn is_against(&self, how: Access, cell: usize) -> bool
-        ensures { result ≡ against how (marks_of self.now.marks) (writes_of self.now) cell }
-    {
-        match how {
-            Access::Reads => self.wrote(cell),
-            Access::Writes => self.wrote(cell) || self.marks.has(cell),
-        }
     }
 
     // The value that is set aside for the cell.
@@ -93,5 +84,62 @@ impl Log {
         self.writes[at as usize] = Write { cell, value };
         self.written = at + 1;
         true
+    }
+}
+
+impl Transaction {
+    // Reads the cell for the transaction's own card.
+    pub(crate) fn read(&mut self, cell: u8, standing: u16) -> Result<u16, Refusal>
+        ensures { (result, tx_in self.new) ≡ own_read (tx_in self.old) cell standing }
+    {
+        match *self {
+            Transaction::Closed => Err(Refusal::NoTransaction),
+            Transaction::Doomed => {
+                *self = Transaction::Closed;
+                Err(Refusal::Doomed)
+            }
+            Transaction::Open(mut log) => match log.read(cell, standing) {
+                Some(value) => {
+                    *self = Transaction::Open(log);
+                    Ok(value)
+                }
+                None => {
+                    *self = Transaction::Closed;
+                    Err(Refusal::Full)
+                }
+            },
+        }
+    }
+
+    // Writes the cell for the transaction's own card.
+    pub(crate) fn write(&mut self, cell: u8, value: u16) -> Result<(), Refusal>
+        ensures { (result, tx_in self.new) ≡ own_write (tx_in self.old) cell value }
+    {
+        match *self {
+            Transaction::Closed => Err(Refusal::NoTransaction),
+            Transaction::Doomed => {
+                *self = Transaction::Closed;
+                Err(Refusal::Doomed)
+            }
+            Transaction::Open(mut log) => {
+                if !log.record(cell, value) {
+                    *self = Transaction::Closed;
+                    return Err(Refusal::Full);
+                }
+                *self = Transaction::Open(log);
+                Ok(())
+            }
+        }
+    }
+
+    // Whether an access of the cell by another card dooms the transaction.
+    pub(crate) fn conflicts(&self, how: Access, cell: usize) -> bool
+        ensures { result ≡ conflicts how cell (tx_in self.now) }
+    {
+        match (self, how) {
+            (Transaction::Open(log), Access::Reads) => log.wrote(cell),
+            (Transaction::Open(log), Access::Writes) => log.wrote(cell) || log.marks.has(cell),
+            (Transaction::Closed | Transaction::Doomed, _) => false,
+        }
     }
 }

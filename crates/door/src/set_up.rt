@@ -49,4 +49,11 @@ impl<M: Memory> Door<M> {
     {
         self.lock.into_memory()
     }
+
+    // The sizes of the board.
+    pub fn sizes(&self) -> Sizes
+        ensures { result ≡ self.now.lock.sizes }
+    {
+        self.lock.sizes()
+    }
 }

@@ -1,1 +1,1 @@
-pub mod Understood
+pub mod Told

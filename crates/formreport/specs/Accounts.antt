@@ -1,17 +1,16 @@
--- What the form checker prints for a text.
-use Rattle.std.specs.Prelude.{◌≡◌, ℕ, ◌+◌, ◌<◌, ◌≤◌, List, [], ◌++◌, length, Ok, Err, Result}
+-- What the form checker prints for a text. Assumes nothing.
+use Rattle.std.specs.Prelude.{◌≡◌, ℕ, ◌+◌, ◌<◌, ◌≤◌, List, [], ◌∷◌, ◌++◌, length, Ok, Err, Result}
 use Rattle.textline.specs.declared.events.Event.{Event}
 use Rattle.textline.specs.declared.events.SizeLines.{SizeLines}
 use Rattle.textline.specs.declared.faults.FormFault.{FormFault}
 use Rattle.textline.specs.declared.faults.FormFault.TheVariants.{TooLong, BadLine}
-use Rattle.textline.specs.Faults.{bad_line}
 use Rattle.schedule.specs.Schedules.{front_of, text_of, Renders, RendersNone, StopsAt}
 use Rattle.schedule.specs.Sections.{SizeSection}
 use Rattle.formtext.specs.declared.faults.ReadFault.{ReadFault}
 use Rattle.formtext.specs.declared.faults.ReadFault.TheVariants.{Memory, Form}
-use Rattle.formwords.specs.Words.{sizes_line, count_line, event_lines, whole_line}
+use Rattle.formwords.specs.Words.{sizes_line, count_line, event_lines, fault_line, whole_line}
 
--- what is printed for bs before the verdict, by its fault: the lines of what is understood up to there
+-- `told` is what is understood of bs before the fault
 pub data Before (bs : List ℕ) : List ℕ → FormFault → Type 0 where
   -- nothing of a text that is too long
   long : 65535 < length bs → Before bs [] TooLong
@@ -31,18 +30,16 @@ Tells start bs now (Ok u) =
     (s : SizeLines) × (es : List Event) × (length bs ≤ 65535) × Renders bs s es
     × (now ≡ start ++ (sizes_line s ++ (count_line (length es) ++ event_lines 6 es)))
 Tells start bs now (Err Memory) = Unit {0}
-Tells start bs now (Err (Form f)) = (understood : List ℕ) × (now ≡ start ++ understood) × Before bs understood f
+Tells start bs now (Err (Form f)) = (told : List ℕ) × (now ≡ start ++ told) × Before bs told f
 
 -- `last` is the verdict that ends an account; there is none for want of memory
 abbrev pub Verdict : Result (Unit {0}) ReadFault → List ℕ → Type 0
 Verdict (Ok u) last = last ≡ whole_line
-Verdict (Err (Form f)) last = last ≡ bad_line f
+Verdict (Err (Form f)) last = last ≡ fault_line f
 Verdict (Err Memory) last = ⊥
 
 -- all that is printed for bs: what is understood, and then the verdict
 pub data Accounts (bs : List ℕ) : List ℕ → Type 0 where
-  -- a text that is no schedule
-  refused : (understood : List ℕ) (f : FormFault) → Before bs understood f → Accounts bs (understood ++ bad_line f)
-  -- a schedule
+  refused : (told : List ℕ) (f : FormFault) → Before bs told f → Accounts bs (told ++ fault_line f)
   accepted : (s : SizeLines) (es : List Event) → length bs ≤ 65535 → Renders bs s es
       → Accounts bs ((sizes_line s ++ (count_line (length es) ++ event_lines 6 es)) ++ whole_line)

@@ -1,5 +1,5 @@
--- The ways out of a reading.
-use Rattle.std.proofs.Common.{◌≡◌, ℕ, ◌≤◌, List, length, IsErrAnd, Ok, Err, vec_items, Result, sym, ◌∙◌, subst, arith}
+-- The ways out of a reading. Assumes nothing.
+use Rattle.std.proofs.Common.{◌≡◌, ℕ, ◌<◌, ◌≤◌, List, [], ◌∷◌, ◌++◌, length, IsErrAnd, Ok, Err, vec_items, Result, sym, ◌∙◌, subst, arith}
 use Rattle.textline.specs.declared.events.Event.{Event}
 use Rattle.textline.specs.declared.events.SizeLines.{SizeLines}
 use Rattle.textline.specs.declared.faults.FormFault.{FormFault}
@@ -17,7 +17,7 @@ use Rattle.formtext.specs.Reads.{Reads, GivesBack, ReadsWhole}
 gives_back : (bs : List ℕ) (r : Result Schedule ReadFault) → Reads bs r → (s : SizeLines) (es : List Event)
     → Renders bs s es → length bs ≤ 65535 → GivesBack s es r
 gives_back bs (Ok v) h s es t le =
-    one_rendering v.sizes s (vec_items v.events) es h.1.limits t.limits (sym h.1.text ∙ t.text)
+    one_rendering v.sizes s (vec_items v.events) es h.1.sound t.sound (sym h.1.text ∙ t.text)
 gives_back bs (Err Memory) h s es t le = tt
 gives_back bs (Err (Form TooLong)) h s es t le = omega arith
 gives_back bs (Err (Form (BadLine line))) h s es t le = h.2 s es t

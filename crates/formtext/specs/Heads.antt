@@ -1,4 +1,4 @@
--- The lines of a schedule before its events.
+-- The lines of a schedule before its events. Assumes nothing.
 use Rattle.std.specs.Prelude.{ℕ, List, [], ◌∷◌, ◌++◌, codes, decimal}
 use Rattle.textline.specs.declared.events.SizeLines.{SizeLines}
 

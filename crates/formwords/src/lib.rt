@@ -1,4 +1,4 @@
-// The lines in which the form checker says what it understood.
+// The lines in which the form checker says what it understood, and what it refused.
 mod words;
 
-pub use words::{Understood, count_line, event_line, sizes_line};
+pub use words::{Understood, count_line, event_line, fault_line, sizes_line};

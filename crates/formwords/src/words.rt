@@ -1,10 +1,11 @@
 // The words for what was understood.
 ghost use Rattle.std.specs.Prelude.{◌≡◌, IfOk, Some, string_bytes};
-ghost use Rattle.formwords.specs.Words.{event_words, sizes_line, count_line, event_line};
+ghost use Rattle.formwords.specs.Words.{event_words, sizes_line, count_line, event_line, fault_line};
 
 use std::alloc::{AllocError, Global};
 use std::fmt;
-use textline::{Event, SizeLines};
+use std::fmt::Write;
+use textline::{Event, FormFault, SizeLines};
 
 // An event with a name before each of its numbers.
 #[derive(Clone, Copy)]
@@ -80,4 +81,11 @@ pub fn event_line(heap: Global, line: u32, e: Event) -> Result<String, AllocErro
 {
     let words = Understood(e);
     format!(in heap; "{line} {words}\n")
+}
+
+// The verdict on a text that is no schedule.
+pub fn fault_line(heap: Global, fault: FormFault) -> Result<String, AllocError>
+    ensures { IfOk result (λ s. string_bytes s ≡ fault_line fault) }
+{
+    format!(in heap; "{fault}\n")
 }

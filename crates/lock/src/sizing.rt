@@ -59,4 +59,22 @@ impl Sizes {
         }
         Some(counter as u8)
     }
+
+    pub fn cards(self) -> u8
+        ensures { result ≡ self.cards }
+    {
+        self.cards
+    }
+
+    pub fn nodes(self) -> u8
+        ensures { result ≡ self.nodes }
+    {
+        self.nodes
+    }
+
+    pub fn counters(self) -> u8
+        ensures { result ≡ self.counters }
+    {
+        self.counters
+    }
 }

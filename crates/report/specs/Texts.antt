@@ -1,46 +1,48 @@
--- The bytes of every line that a run prints.
+-- The bytes of every line that a run prints. Assumes nothing.
 use Rattle.std.specs.Prelude.{ℕ, List, [], ◌∷◌, ◌++◌, Ok, Err, codes, decimal, Result}
 use Rattle.memory.specs.Numbers as memory
-use Rattle.lock.specs.Faults as lock
-use Rattle.door.specs.Faults as door
 use Rattle.stages.specs.declared.answer.Answer.{Answer}
 use Rattle.stages.specs.declared.answer.Answer.TheVariants.{Done, Step, Wait, Lost, In, Out, Added, Count}
+use Rattle.lock.specs.declared.fault.LockFault.{LockFault}
 use Rattle.lock.specs.declared.fault.LockFault.TheVariants.{NoCard, NotAllowed, NoPlace, NotFree, Memory}
 use Rattle.lock.specs.declared.fault.SizeFault.{SizeFault}
+use Rattle.lock.specs.declared.fault.SizeFault.TheVariants.{OutOfRange}
 use Rattle.door.specs.declared.fault.DoorFault.{DoorFault}
 use Rattle.door.specs.declared.fault.DoorFault.TheVariants.{Malformed, Differs, Lock}
+use Rattle.textline.specs.declared.faults.FormFault.{FormFault}
+use Rattle.textline.specs.Faults.{form_words}
 use Rattle.textline.specs.Numbers.{spelled}
 
--- behind an 8: the memory's own number, and the cell
-abbrev pub memory_words : DoorFault → List ℕ
-memory_words Malformed = []
-memory_words Differs = []
-memory_words (Lock NoCard) = []
-memory_words (Lock NotAllowed) = []
-memory_words (Lock NoPlace) = []
-memory_words (Lock NotFree) = []
-memory_words (Lock (Memory f)) =
-    codes " " ++ (decimal (memory.number f.refusal) ++ (codes " " ++ decimal f.cell))
-
--- the words and numbers of every answer
-abbrev pub outcome_words : Result Answer DoorFault → List ℕ
-outcome_words (Ok Done) = codes "ok"
-outcome_words (Ok Step) = codes "step"
-outcome_words (Ok Wait) = codes "wait"
-outcome_words (Ok Lost) = codes "lost"
-outcome_words (Ok In) = codes "in"
-outcome_words (Ok Out) = codes "out"
-outcome_words (Ok (Added count)) = codes "added " ++ decimal count
-outcome_words (Ok (Count count)) = codes "count " ++ decimal count
-outcome_words (Err f) = codes "refused " ++ (decimal (door.number f) ++ memory_words f)
+-- the words and numbers of every answer; 8 has the memory's number and the cell after it
+abbrev pub words : Result Answer DoorFault → List ℕ
+words (Ok Done) = codes "ok"
+words (Ok Step) = codes "step"
+words (Ok Wait) = codes "wait"
+words (Ok Lost) = codes "lost"
+words (Ok In) = codes "in"
+words (Ok Out) = codes "out"
+words (Ok (Added count)) = codes "added " ++ decimal count
+words (Ok (Count count)) = codes "count " ++ decimal count
+words (Err (Lock NoCard)) = codes "refused 2"
+words (Err Malformed) = codes "refused 3"
+words (Err Differs) = codes "refused 4"
+words (Err (Lock NotAllowed)) = codes "refused 5"
+words (Err (Lock NoPlace)) = codes "refused 6"
+words (Err (Lock NotFree)) = codes "refused 7"
+words (Err (Lock (Memory f))) =
+    codes "refused 8 " ++ (decimal (memory.number f.refusal) ++ (codes " " ++ decimal f.cell))
 
 -- the number of an event and its answer, one space between them
 abbrev pub answer_line : ℕ → Result Answer DoorFault → List ℕ
-answer_line k result = decimal k ++ (codes " " ++ (outcome_words result ++ (10 ∷ [])))
+answer_line k result = decimal k ++ (codes " " ++ (words result ++ (10 ∷ [])))
 
--- `refused` and the number of a fault of sizes
-abbrev pub refused_sizes_line : SizeFault → List ℕ
-refused_sizes_line f = codes "refused " ++ (decimal (lock.size_number f) ++ (10 ∷ []))
+-- `bad`, the line and the number of a fault of form
+abbrev pub bad_line : FormFault → List ℕ
+bad_line f = form_words f ++ (10 ∷ [])
+
+-- sizes out of range get 1
+abbrev pub sizes_line : SizeFault → List ℕ
+sizes_line OutOfRange = codes "refused 1\n"
 
 -- `queue` and the nodes in line, one space before each
 abbrev pub queue_line : List ℕ → List ℕ

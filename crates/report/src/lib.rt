@@ -2,6 +2,5 @@
 mod lines;
 mod words;
 
-pub use lines::{answer_line, queue_line, refused_sizes};
-pub use textline::bad_line;
+pub use lines::{answer_line, bad_line, queue_line, refused_sizes};
 pub use words::Outcome;

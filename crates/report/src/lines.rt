@@ -1,12 +1,13 @@
 // Whole lines, each with its line end.
 ghost use Rattle.std.specs.Prelude.{◌≡◌, ◌++◌, IfOk, string_bytes, codes, decimal};
-ghost use Rattle.report.specs.Texts.{answer_line, refused_sizes_line, queue_line};
+ghost use Rattle.report.specs.Texts.{answer_line, bad_line, sizes_line, queue_line};
 
 use crate::words::Outcome;
 use door::fault::DoorFault;
 use lock::fault::SizeFault;
 use stages::answer::Answer;
 use std::alloc::{AllocError, Global};
+use textline::FormFault;
 
 // The line of the event with the number `k`, counted from 1.
 pub fn answer_line(
@@ -20,12 +21,20 @@ pub fn answer_line(
     format!(in heap; "{k} {outcome}\n")
 }
 
+// The line that ends a run whose schedule is at fault.
+pub fn bad_line(heap: Global, fault: FormFault) -> Result<String, AllocError>
+    ensures { IfOk result (λ s. string_bytes s ≡ bad_line fault) }
+{
+    format!(in heap; "{fault}\n")
+}
+
 // The only line of a run whose sizes are refused.
 pub fn refused_sizes(heap: Global, fault: SizeFault) -> Result<String, AllocError>
-    ensures { IfOk result (λ s. string_bytes s ≡ refused_sizes_line fault) }
+    ensures { IfOk result (λ s. string_bytes s ≡ sizes_line fault) }
 {
-    let number = fault.number();
-    format!(in heap; "refused {number}\n")
+    match fault {
+        SizeFault::OutOfRange => String::from_str(heap, "refused 1\n"),
+    }
 }
 
 // One node of the queue line.

@@ -1,11 +1,13 @@
 // The words of what a call answered.
 ghost use Rattle.std.specs.Prelude.{Some, Ok, Err};
-ghost use Rattle.report.specs.Texts.{memory_words, outcome_words};
+ghost use Rattle.report.specs.Texts.{words};
 
 use door::fault::DoorFault;
 use lock::fault::LockFault;
+use memory::fault::MemoryFault;
 use stages::answer::Answer;
 use std::fmt;
+use std::fmt::Write;
 
 // The answer of an accepted call.
 #[derive(Clone, Copy)]
@@ -15,16 +17,12 @@ struct Accepted(Answer);
 #[derive(Clone, Copy)]
 struct Refused(DoorFault);
 
-// What the memory said, where it was the memory that refused.
-#[derive(Clone, Copy)]
-struct ByMemory(DoorFault);
-
 // What a call gave.
 #[derive(Drop)]
 pub struct Outcome(pub Result<Answer, DoorFault>);
 
 impl fmt::Display for Accepted {
-    ghost output = { λ a. Some (outcome_words (Ok a.0)) };
+    ghost output = { λ a. Some (words (Ok a.0)) };
 
     fn fmt<W: fmt::Write>(&self, f: &mut fmt::Formatter<W>) -> fmt::Result {
         match self.0 {
@@ -40,36 +38,34 @@ impl fmt::Display for Accepted {
     }
 }
 
-impl fmt::Display for ByMemory {
-    ghost output = { λ m. Some (memory_words m.0) };
+impl fmt::Display for Refused {
+    ghost output = { λ r. Some (words (Err r.0)) };
 
     fn fmt<W: fmt::Write>(&self, f: &mut fmt::Formatter<W>) -> fmt::Result {
         match self.0 {
-            DoorFault::Lock {
-                fault: LockFault::Memory { fault },
-            } => {
-                let number = fault.refusal.number();
-                let cell = fault.cell;
-                write!(f, " {number} {cell}")
-            }
-            _ => Ok(()),
+            DoorFault::Malformed => write!(f, "refused 3"),
+            DoorFault::Differs => write!(f, "refused 4"),
+            DoorFault::Lock { fault } => match fault {
+                LockFault::NoCard => write!(f, "refused 2"),
+                LockFault::NotAllowed => write!(f, "refused 5"),
+                LockFault::NoPlace => write!(f, "refused 6"),
+                LockFault::NotFree => write!(f, "refused 7"),
+                LockFault::Memory { fault } => {
+                    let MemoryFault {
+                        refusal,
+                        card: _,
+                        cell,
+                    } = fault;
+                    let number = refusal.number();
+                    write!(f, "refused 8 {number} {cell}")
+                }
+            },
         }
     }
 }
 
-impl fmt::Display for Refused {
-    ghost output = { λ r. Some (outcome_words (Err r.0)) };
-
-    fn fmt<W: fmt::Write>(&self, f: &mut fmt::Formatter<W>) -> fmt::Result {
-        let fault = self.0;
-        let number = fault.number();
-        let memory = ByMemory(fault);
-        write!(f, "refused {number}{memory}")
-    }
-}
-
 impl fmt::Display for Outcome {
-    ghost output = { λ o. Some (outcome_words o.0) };
+    ghost output = { λ o. Some (words o.0) };
 
     fn fmt<W: fmt::Write>(&self, f: &mut fmt::Formatter<W>) -> fmt::Result {
         match self.0 {

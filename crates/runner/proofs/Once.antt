@@ -1,24 +1,32 @@
--- What is printed for a text is one.
-use Rattle.std.proofs.Common.{◌≡◌, ℕ, ◌+◌, ◌<◌, ◌≤◌, List, ◌++◌, map, length, take, drop, Ok, Err, Result, sym, refl, ap, ◌∙◌, subst, append_assoc, arith}
+-- What is printed for a text is one. Assumes nothing.
+use Rattle.std.proofs.Common.{◌≡◌, ℕ, zero, suc, ◌+◌, ◌<◌, ◌≤◌, List, [], ◌∷◌, ◌++◌, map, length, take, drop, Ok, Err, decimal, Result, sym, refl, ap, ◌∙◌, subst, append_assoc, arith}
 use Rattle.std.specs.List.{AllByRecursion as All}
+use Rattle.std.proofs.ByRecursion.{All-map, All-weaker}
 use Rattle.std.proofs.lemmas.List.{take-take, take_all, length-map}
 use Rattle.lock.specs.declared.fault.SizeFault.{SizeFault}
 use Rattle.lock.specs.Lock.{Size}
 use Rattle.textline.specs.declared.events.Event.{Event}
 use Rattle.textline.specs.declared.events.SizeLines.{SizeLines}
 use Rattle.textline.specs.declared.faults.FormFault.TheVariants.{BadLine}
-use Rattle.textline.specs.Events.{written}
-use Rattle.textline.specs.Faults.{bad_line}
+use Rattle.textline.specs.Events.{written, numbers_of}
 use Rattle.textline.specs.Lines.{NoEnd}
+use Rattle.textline.specs.Numbers.{Small}
+use Rattle.textline.proofs.Ends.{no_end_decimal, no_end_written}
 use Rattle.schedule.specs.Schedules.{front_of, lines_of, text_of, Fits, StopsAt}
 use Rattle.schedule.specs.Sections.{SizeSection}
-use Rattle.schedule.proofs.Fronts.{no_ends_front, fits_first, peel}
-use Rattle.schedule.proofs.Once.{same_events, one_rendering}
-use Rattle.schedule.proofs.Progress.{same_sizes, early_none, text_split}
-use Rattle.report.specs.Texts.{refused_sizes_line}
+use Rattle.schedule.proofs.Fronts.{peel}
+use Rattle.schedule.proofs.Once.{one_event, one_rendering}
+use Rattle.schedule.proofs.Progress.{same_sizes, early_none}
+use Rattle.report.specs.Texts.{bad_line, sizes_line}
 use Rattle.runner.specs.Prints.{answered, queued, asks, Reaches, Runs, OnePrint}
 use Rattle.runner.specs.Prints.Runs.{uncounted, stopped, finished}
 use Rattle.runner.specs.Prints.Prints.{long, unsized, refused, ran}
+
+text_split : (ls : List (List ℕ)) (k : ℕ) → text_of ls ≡ text_of (take k ls) ++ text_of (drop k ls)
+text_split ls zero = refl
+text_split [] (suc k) = refl
+text_split (l ∷ ls) (suc k) =
+    ap (λ x. l ++ (10 ∷ x)) (text_split ls k) ∙ sym (append_assoc l (10 ∷ text_of (take k ls)) (text_of (drop k ls)))
 
 -- a text that begins with some lines of a schedule begins with fewer of them
 fits_fewer : (j k : ℕ) (bs : List ℕ) → j ≤ k → Fits k bs → Fits j bs
@@ -29,7 +37,7 @@ fits_fewer j k bs le f =
       sizes = f.sizes;
       events = f.events;
       after = text_of (drop j (take k L)) ++ f.after;
-      limits = f.limits;
+      sound = f.sound;
       enough = omega arith;
       whole = f.whole ∙ ap (λ l. l ++ f.after) (text_split (take k L) j)
           ∙ append_assoc (text_of (take j (take k L))) (text_of (drop j (take k L))) f.after
@@ -54,15 +62,54 @@ one_line bs a b p q =
 -- a text that has a size section does not stop in it
 sized_past : (bs after : List ℕ) (s : SizeLines) (line : ℕ) → SizeSection bs s after → StopsAt line bs → line ≤ 4 → ⊥
 sized_past bs after s line section stop le =
-    fits_past bs line 4 stop (fits_first bs after s 4 section.small (omega arith) section.whole) le
+    fits_past bs line 4 stop
+    (record {
+      sizes = s;
+      events = [];
+      after = after;
+      sound = record { sizes = section.small; few = omega arith; events = tt };
+      enough = omega arith;
+      whole = section.whole;
+    })
+    le
+
+-- events can be told from their lines
+same_events : (es fs : List Event) → All (λ e. Small (numbers_of e)) es → All (λ e. Small (numbers_of e)) fs
+    → map written es ≡ map written fs → es ≡ fs
+same_events [] [] p q e = refl
+same_events [] (f ∷ fs) p q e =
+    let z : length (map written []) ≡ length (map written (f ∷ fs)) = ap length e in absurd (omega arith)
+same_events (a ∷ es) [] p q e =
+    let z : length (map written (a ∷ es)) ≡ length (map written []) = ap length e in absurd (omega arith)
+same_events (a ∷ es) (f ∷ fs) p q e =
+    let h : written a ≡ written f = cc in
+    let t : map written es ≡ map written fs = cc in
+    let head = one_event a f p.0 q.0 h in
+    let tail = same_events es fs p.1 q.1 t in
+    (λ i. head i ∷ tail i)
 
 module _ (bs head : List ℕ) (s : SizeLines) (section : SizeSection bs s head) where
   -- no line that is reached has a line end within it
   no_ends : (count : ℕ) (done : List Event) (rest : List ℕ) → Reaches bs s count done rest
       → All NoEnd (front_of s count done)
   no_ends count done rest r =
-      let few = r.few in
-      no_ends_front s count done section.small (omega arith) r.small
+      let few = r.few in (
+        no_end_decimal 3 (omega arith),
+        (
+          no_end_decimal s.cards section.small.0,
+          (
+            no_end_decimal s.nodes section.small.1.0,
+            (
+              no_end_decimal s.counters section.small.1.1.0,
+              (
+                no_end_decimal count (omega arith),
+                All-map NoEnd written done
+                    (All-weaker (λ e. Small (numbers_of e)) (λ e. NoEnd (written e)) no_end_written done r.small),
+              ),
+            ),
+          ),
+        ),
+      )
 
   -- as many events that are reached are the same
   same_reached : (count k : ℕ) (es fs : List Event) (rest after : List ℕ) → Reaches bs s count es rest
@@ -70,8 +117,8 @@ module _ (bs head : List ℕ) (s : SizeLines) (section : SizeSection bs s head) 
   same_reached count k es fs rest after p q is =
       let x = length-map es written in
       let y = length-map fs written in
-      let front = (peel (front_of s count es) (front_of s k fs) rest after
-      (no_ends count es rest p) (no_ends k fs after q) (omega arith) (sym p.whole ∙ q.whole)).0 in
+      let front = (peel (front_of s count es) (front_of s k fs) rest after (no_ends count es rest p) (no_ends k fs after q)
+      (omega arith) (sym p.whole ∙ q.whole)).0 in
       let all = take_all (length (front_of s count es)) (front_of s k fs) (omega arith) in
       let same : front_of s k fs ≡ front_of s count es = sym all ∙ front in
       let lines : map written es ≡ map written fs = cc in
@@ -94,17 +141,15 @@ module _ (bs head : List ℕ) (s : SizeLines) (section : SizeSection bs s head) 
   one_run z _ _ (finished es p) (stopped count done rest line r is stop none) = absurd (none s es p)
   one_run z _ _ (finished es p) (finished fs q) =
       ap (λ l. answered z l ++ queued z l)
-      (one_rendering s s es fs p.limits q.limits (sym p.text ∙ q.text)).1
+      (one_rendering s s es fs p.sound q.sound (sym p.text ∙ q.text)).1
 
 -- sizes are refused or not
 not_both : (r : Result Size SizeFault) (z : Size) (e : SizeFault) → r ≡ Ok z → r ≡ Err e → ⊥
 not_both r z e p q = let w : ◌≡◌ {A = ℕ} 0 1 = cc in omega arith
 
--- by one fault
 one_fault : (r : Result Size SizeFault) (d e : SizeFault) → r ≡ Err d → r ≡ Err e → d ≡ e
 one_fault r d e p q = cc
 
--- or they are one
 one_size : (r : Result Size SizeFault) (y z : Size) → r ≡ Ok y → r ≡ Ok z → y ≡ z
 one_size r y z p q = cc
 
@@ -125,7 +170,7 @@ one_print bs _ _ (refused s after e short section is) (long q) = absurd (omega a
 one_print bs _ _ (refused s after e short section is) (unsized line shorter le stop) =
     absurd (sized_past bs after s line section stop le)
 one_print bs _ _ (refused s after e short section is) (refused t behind f shorter part are) =
-    ap refused_sizes_line (one_fault (asks s) e f is (ap asks (same_sizes bs after behind s t section part) ∙ are))
+    ap sizes_line (one_fault (asks s) e f is (ap asks (same_sizes bs after behind s t section part) ∙ are))
 one_print bs _ _ (refused s after e short section is) (ran t behind z x shorter part are runs) =
     absurd (not_both (asks t) z e are (ap asks (same_sizes bs behind after t s part section) ∙ is))
 one_print bs _ _ (ran s after z x short section is runs) (long q) = absurd (omega arith)

@@ -1,4 +1,4 @@
--- A schedule that is run, event after event, and the ways out of it.
+-- A schedule that is run, event after event, and the ways out of it. Assumes nothing.
 use Rattle.std.proofs.Common.{◌≡◌, ℕ, ◌+◌, ◌<◌, ◌≤◌, true, List, [], ◌∷◌, ◌++◌, length, is_err, IsErrAnd, IfOk, Ok, Err, Result, sym, refl, ap, ◌∙◌, subst, append_assoc, append-nil, arith}
 use Rattle.std.proofs.lemmas.List.{length_push}
 use Rattle.memory.specs.Meaning.{Meaning}
@@ -7,6 +7,7 @@ use Rattle.lock.specs.declared.fault.SizeFault.{SizeFault}
 use Rattle.lock.specs.Lock.{Size, sized}
 use Rattle.door.specs.declared.fault.DoorFault.{DoorFault}
 use Rattle.door.specs.declared.fault.Unfit.{Unfit}
+use Rattle.door.specs.declared.call.Call.{Call}
 use Rattle.door.specs.Door.{DoorState, new_door, called}
 use Rattle.door.specs.Door as door
 use Rattle.door.specs.Doors.{set_up}
@@ -18,17 +19,16 @@ use Rattle.textline.specs.declared.events.Event.{Event}
 use Rattle.textline.specs.declared.events.SizeLines.{SizeLines}
 use Rattle.textline.specs.declared.faults.FormFault.{FormFault}
 use Rattle.textline.specs.declared.faults.FormFault.TheVariants.{TooLong, BadLine}
-use Rattle.textline.specs.Faults.{bad_line}
 use Rattle.textline.specs.Lines.{NumberLine, EventLine}
-use Rattle.schedule.specs.Schedules.{StopsAt, RendersNone}
+use Rattle.schedule.specs.Schedules.{Renders, StopsAt, RendersNone}
 use Rattle.schedule.specs.Sections.{SizeSection, TakesSizes}
 use Rattle.schedule.proofs.Progress.{Progress, progress_none, progress_more, progress_all}
 use Rattle.schedule.proofs.Progress.{count_stops, event_stops, event_none, end_stops, end_none}
-use Rattle.report.specs.Texts.{answer_line, refused_sizes_line}
+use Rattle.report.specs.Texts.{answer_line, bad_line, sizes_line}
 use Rattle.runner.specs.declared.faults.RunFault.{RunFault}
 use Rattle.runner.specs.declared.faults.RunFault.TheVariants.{Memory, Form, Sizes}
 use Rattle.runner.specs.Calls.{call_of_event, calls_of}
-use Rattle.runner.specs.Prints.{answered, asks, Reaches, Prints}
+use Rattle.runner.specs.Prints.{answered, asks, Reaches, Runs, Prints}
 use Rattle.runner.specs.Prints.Runs.{uncounted, stopped, finished}
 use Rattle.runner.specs.Prints.Prints.{long, unsized, ran}
 use Rattle.runner.specs.Plays.{Plays, Ends}
@@ -39,7 +39,6 @@ abbrev made_of : {X : Type 0} → X → Result Size SizeFault → Result (Size �
 made_of memory (Ok z) = Ok (z, new_door)
 made_of memory (Err e) = Err (record { fault = e; memory = memory })
 
--- set-up goes by the judgement of sizes alone
 set_up_is : {X : Type 0} (memory : X) (c n k : ℕ) → set_up memory c n k ≡ made_of memory (sized c n k)
 set_up_is memory c n k = same (sized c n k)
   where
@@ -48,7 +47,6 @@ set_up_is memory c n k = same (sized c n k)
     same (Ok z) = refl
     same (Err e) = refl
 
--- a board that was made has the sizes that were judged, and is new
 made_ok : {X : Type 0} (memory : X) (j : Result Size SizeFault) (z : Size) (s : DoorState)
     → Ok (z, s) ≡ made_of memory j → (j ≡ Ok z) × (s ≡ new_door)
 made_ok memory (Ok y) z s q =
@@ -56,7 +54,6 @@ made_ok memory (Ok y) z s q =
     (ap (λ (w : Size × DoorState). Ok w.0) (sym e), ap (λ (w : Size × DoorState). w.1) e)
 made_ok memory (Err f) z s q = let w : ◌≡◌ {A = ℕ} 0 1 = cc in absurd (omega arith)
 
--- a refusal has the fault of the judgement
 made_err : {X : Type 0} (memory : X) (j : Result Size SizeFault) (u : Unfit X)
     → Err u ≡ made_of memory j → j ≡ Err u.fault
 made_err memory (Ok y) u q = let w : ◌≡◌ {A = ℕ} 0 1 = cc in absurd (omega arith)
@@ -79,21 +76,17 @@ not_sized meaning memory s u e = made_err memory (asks s) u (e ∙ set_up_is mem
 
 module _ {X : Type 0} (meaning : X → Meaning) where
   -- a fault of the form is passed on
-  pub fails : (start bs now printed : List ℕ) (r : Result (Board X) RunFault) (f : FormFault)
-      → IsErrAnd r (λ y. y ≡ Form f) → now ≡ start ++ printed → Prints bs (printed ++ bad_line f)
-      → Plays meaning start bs now r
-  fails start bs now printed (Ok u) f e is b = absurd e
-  fails start bs now printed (Err g) f e is b =
-      subst (λ h. Plays meaning start bs now (Err h)) (sym e)
-      (record { printed = printed; appended = is; prints = b })
+  pub fails : (start bs now told : List ℕ) (r : Result (Board X) RunFault) (f : FormFault) → IsErrAnd r (λ y. y ≡ Form f)
+      → now ≡ start ++ told → Prints bs (told ++ bad_line f) → Plays meaning start bs now r
+  fails start bs now told (Ok u) f e is b = absurd e
+  fails start bs now told (Err g) f e is b = subst (λ h. Plays meaning start bs now (Err h)) (sym e) (told, is, b)
 
   -- a fault of the sizes is passed on
   pub fails_sizes : (start bs now : List ℕ) (r : Result (Board X) RunFault) (f : SizeFault) → IsErrAnd r (λ y. y ≡ Sizes f)
-      → now ≡ start → Prints bs (refused_sizes_line f) → Plays meaning start bs now r
+      → now ≡ start → Prints bs (sizes_line f) → Plays meaning start bs now r
   fails_sizes start bs now (Ok u) f e is b = absurd e
   fails_sizes start bs now (Err g) f e is b =
-      subst (λ h. Plays meaning start bs now (Err h)) (sym e)
-      (record { printed = []; appended = is ∙ sym (append-nil start); prints = b })
+      subst (λ h. Plays meaning start bs now (Err h)) (sym e) ([], is ∙ sym (append-nil start), b)
 
   -- want of memory is passed on
   pub fails_memory : (start bs now : List ℕ) (r : Result (Board X) RunFault) → IsErrAnd r (λ y. y ≡ Memory)
@@ -114,8 +107,7 @@ bad_count bs head s z f short section fits is none =
     subst (λ g. Prints bs (bad_line g)) (sym is)
     (ran s head z _ short section fits (uncounted (count_stops bs head s section none)))
 
--- `index` events of bs are run on a board of sizes z that is in state `at`; their answers are printed, and `rest`
--- follows
+-- `index` events of bs are run on a board of sizes z that is in state `at`; their answers are told, and `rest` follows
 pub record Playing (bs start now : List ℕ) (z : Size) (at : DoorState) (count index : ℕ) (rest : List ℕ) : Type 0 where
   pub sizes : SizeLines
   pub done : List Event
@@ -125,7 +117,7 @@ pub record Playing (bs start now : List ℕ) (z : Size) (at : DoorState) (count 
   pub progress : Progress bs sizes count done rest
   pub follows : Follows z (calls_of done) at
   pub state : at ≡ door.ran z new_door (calls_of done)
-  pub printed : now ≡ start ++ answered z done
+  pub told : now ≡ start ++ answered z done
 
 -- a new board
 pub playing_none : (bs start head body : List ℕ) (s : SizeLines) (z : Size) (at : DoorState) (count : ℕ)
@@ -140,7 +132,7 @@ playing_none bs start head body s z at count short fits new stands section few c
   progress = progress_none bs head body s count section few counted;
   follows = stands.follows;
   state = new;
-  printed = sym (append-nil start);
+  told = sym (append-nil start);
 }
 
 module _ {bs start now : List ℕ} {z : Size} {at : DoorState} {count index : ℕ} {rest : List ℕ}
@@ -167,14 +159,12 @@ module _ {bs start now : List ℕ} {z : Size} {at : DoorState} {count index : �
         progress = progress_more e after p.progress (omega arith) line;
         follows = subst (λ cs. Follows z cs to) (sym (calls_push p.done e)) C;
         state = ap (λ (w : Result Answer DoorFault × DoorState). w.1) M ∙ sym (state_push z p.done e);
-        printed = pushed
-            ∙ (λ i. p.printed i
-            ++ (piece_is ∙ ap (λ (w : Result Answer DoorFault × DoorState). answer_line n w.0) M) i)
+        told = pushed
+            ∙ (λ i. p.told i ++ (piece_is ∙ ap (λ (w : Result Answer DoorFault × DoorState). answer_line n w.0) M) i)
             ∙ append_assoc start (answered z p.done) _
             ∙ ap (λ l. start ++ l) (sym (answered_push z p.done e n here));
       })
 
-  -- how far the text is read
   reaches : Reaches bs p.sizes count p.done rest
   reaches = record {
     few = p.progress.few;
@@ -183,7 +173,6 @@ module _ {bs start now : List ℕ} {z : Size} {at : DoorState} {count index : �
     whole = p.progress.begun.whole;
   }
 
-  -- what is printed where the next line is at fault
   stops : (line : ℕ) → line ≡ 6 + length p.done → StopsAt line bs → RendersNone bs
       → Prints bs (answered z p.done ++ bad_line (BadLine line))
   stops line is stop none = ran p.sizes p.progress.head z _ p.short p.progress.section p.fits
@@ -199,7 +188,7 @@ module _ {bs start now : List ℕ} {z : Size} {at : DoorState} {count index : �
         let more : length p.done < count = omega arith in
         let line : 6 + index ≡ 6 + length p.done = omega arith in
         let stop = event_stops p.progress (6 + index) line more none in
-        fails meaning start bs now _ r f e p.printed
+        fails meaning start bs now _ r f e p.told
         (subst (λ g. Prints bs (answered z p.done ++ bad_line g)) (sym is)
         (stops (6 + index) line stop (event_none p.progress (6 + index) line more stop)))
 
@@ -209,7 +198,7 @@ module _ {bs start now : List ℕ} {z : Size} {at : DoorState} {count index : �
     stops_end r f last e is some =
         let reached = p.reached in
         let all : length p.done ≡ count = omega arith in
-        fails meaning start bs now _ r f e p.printed
+        fails meaning start bs now _ r f e p.told
         (subst (λ g. Prints bs (answered z p.done ++ bad_line g)) (sym is)
         (stops (6 + count) (omega arith) (end_stops p.progress all) (end_none p.progress all some)))
 
@@ -221,7 +210,7 @@ plays_all meaning bs start now b count index rest p last none =
     let reached = p.reached in
     let all : length p.done ≡ count = omega arith in (
       answered (board_size b) p.done,
-      p.printed,
+      p.told,
       record {
         sizes = p.sizes;
         events = p.done;
@@ -231,22 +220,22 @@ plays_all meaning bs start now b count index rest p last none =
         section = p.progress.section;
         renders = progress_all p.progress all none;
         follows = p.follows;
-        printed_is = refl;
+        told_is = refl;
       },
     )
 
--- the lines of the answers and the last line are all that is printed
+-- what is told and the last line are all that is printed
 pub prints : {X : Type 0} (meaning : X → Meaning) (bs start now out last : List ℕ) (r : Result (Board X) RunFault)
     → start ≡ [] → Plays meaning start bs now r → Ends meaning r last → out ≡ now ++ last → Prints bs out
 prints meaning bs start now out last (Ok b) none t v is =
     let w = t.2 in
-    let printed : now ≡ answered (board_size b) w.events = t.1 ∙ ap (λ l. l ++ t.0) none ∙ w.printed_is in
-    subst (Prints bs) (sym (is ∙ (λ i. printed i ++ v (calls_of w.events) w.follows i)))
+    let told : now ≡ answered (board_size b) w.events = t.1 ∙ ap (λ l. l ++ t.0) none ∙ w.told_is in
+    subst (Prints bs) (sym (is ∙ (λ i. told i ++ v (calls_of w.events) w.follows i)))
     (ran w.sizes w.after (board_size b) _ w.short w.section w.asked (finished w.events w.renders))
 prints meaning bs start now out last (Err (Form f)) none t v is =
-    subst (Prints bs) (sym (is ∙ (λ i. (t.appended ∙ ap (λ l. l ++ t.printed) none) i ++ v i))) t.prints
+    subst (Prints bs) (sym (is ∙ (λ i. (t.1 ∙ ap (λ l. l ++ t.0) none) i ++ v i))) t.2
 prints meaning bs start now out last (Err (Sizes e)) none t v is =
-    subst (Prints bs) (sym (is ∙ (λ i. (t.appended ∙ ap (λ l. l ++ t.printed) none) i ++ v i))) t.prints
+    subst (Prints bs) (sym (is ∙ (λ i. (t.1 ∙ ap (λ l. l ++ t.0) none) i ++ v i))) t.2
 prints meaning bs start now out last (Err Memory) none t v is = absurd v
 
 -- nothing is printed for want of memory

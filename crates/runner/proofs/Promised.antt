@@ -1,9 +1,9 @@
--- The promise stands on every board that size lines ask for.
-use Rattle.std.proofs.Common.{◌≡◌, ℕ, ◌≤◌, Bool, true, false, cond, leb, Ok, Err, sym, refl, ap, arith, leb-true}
+-- The promise stands on every board that size lines ask for. Assumes nothing.
+use Rattle.std.proofs.Common.{◌≡◌, ℕ, ◌≤◌, Bool, true, false, cond, leb, [], Ok, Err, sym, refl, ap, arith, leb-true}
 use Rattle.lock.specs.declared.fault.SizeFault.TheVariants.{OutOfRange}
 use Rattle.lock.specs.Lock.{Size, within, sized}
 use Rattle.board.proofs.Ranges.{Within}
-use Rattle.board.proofs.History.{throughout_new}
+use Rattle.board.proofs.History.{throughout}
 use Rattle.runner.specs.Calls.{calls_of}
 use Rattle.runner.specs.Prints.{PromiseStands}
 
@@ -21,7 +21,6 @@ taken false y z e = let w : ◌≡◌ {A = ℕ} 0 1 = cc in absurd (omega arith)
 at_most : (most x : ℕ) → within most x ≡ true → x ≤ most
 at_most most x e = leb-true x most (both (leb 1 x) (leb x most) e).1
 
--- sizes that are not refused are within the ranges of a board
 within_ranges : (c n k : ℕ) (z : Size) → sized c n k ≡ Ok z → Within z
 within_ranges c n k z e =
     let t = taken (cond (within 8 c) (cond (within 32 n) (within 8 k) false) false)
@@ -39,5 +38,4 @@ within_ranges c n k z e =
 
 -- before the first event and after each
 pub promise_stands : PromiseStands
-promise_stands s z es is =
-    throughout_new z (within_ranges s.cards s.nodes s.counters z is) (calls_of es)
+promise_stands s z es is = throughout z (within_ranges s.cards s.nodes s.counters z is) [] (calls_of es)

@@ -1,4 +1,4 @@
--- The nodes in line, read out of their place.
+-- The nodes in line, read out of their place. Assumes nothing.
 use Rattle.std.proofs.Common.{◌≡◌, ℕ, ◌-◌, List, length, take, replicate, IfOk, Ok, Err, Result, sym, ap, ◌∙◌}
 use Rattle.std.proofs.lemmas.List.{take_at, length-map}
 use Rattle.memory.specs.Meaning.{Meaning}

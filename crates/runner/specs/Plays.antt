@@ -1,23 +1,23 @@
--- What a run leaves before its last line, and that line.
+-- What a run leaves before its last line, and that line. Assumes nothing.
 use Rattle.std.specs.Prelude.{◌≡◌, ℕ, ◌≤◌, List, ◌++◌, length, Ok, Err, Result}
 use Rattle.memory.specs.Meaning.{Meaning}
+use Rattle.lock.specs.Lock.{Size}
 use Rattle.door.specs.declared.call.Call.{Call}
 use Rattle.board.specs.declared.board.Board.{Board}
 use Rattle.board.specs.Book.{fed, Follows}
 use Rattle.board.specs.History.{board_state, board_size, nodes_of}
 use Rattle.textline.specs.declared.events.Event.{Event}
 use Rattle.textline.specs.declared.events.SizeLines.{SizeLines}
-use Rattle.textline.specs.Faults.{bad_line}
 use Rattle.schedule.specs.Schedules.{Renders}
 use Rattle.schedule.specs.Sections.{SizeSection}
-use Rattle.report.specs.Texts.{refused_sizes_line, queue_line}
+use Rattle.report.specs.Texts.{bad_line, sizes_line, queue_line}
 use Rattle.runner.specs.declared.faults.RunFault.{RunFault}
 use Rattle.runner.specs.declared.faults.RunFault.TheVariants.{Memory, Form, Sizes}
 use Rattle.runner.specs.Calls.{calls_of}
 use Rattle.runner.specs.Prints.{answered, asks, Prints}
 
--- a board that has run all of bs, and what was printed on the way
-pub record Whole {X : Type 0} (meaning : X → Meaning) (bs printed : List ℕ) (b : Board X) : Type 0 where
+-- a board that has run all of bs
+pub record Whole {X : Type 0} (meaning : X → Meaning) (bs told : List ℕ) (b : Board X) : Type 0 where
   pub sizes : SizeLines
   pub events : List Event
   pub after : List ℕ
@@ -26,20 +26,14 @@ pub record Whole {X : Type 0} (meaning : X → Meaning) (bs printed : List ℕ) 
   pub asked : asks sizes ≡ Ok (board_size b)
   pub renders : Renders bs sizes events
   pub follows : Follows (board_size b) (calls_of events) (board_state meaning b)
-  pub printed_is : printed ≡ answered (board_size b) events
-
--- what is appended to `start` gives `now`, and is all that is printed for bs once the line `last` ends it
-pub record PrintsWith (bs start now last : List ℕ) : Type 0 where
-  pub printed : List ℕ
-  pub appended : now ≡ start ++ printed
-  pub prints : Prints bs (printed ++ last)
+  pub told_is : told ≡ answered (board_size b) events
 
 -- what is appended to `start` gives `now`; where the run does not end, the line of its fault completes what is printed
 abbrev pub Plays : {X : Type 0} → (X → Meaning) → List ℕ → List ℕ → List ℕ → Result (Board X) RunFault → Type 0
-Plays meaning start bs now (Ok b) = (printed : List ℕ) × (now ≡ start ++ printed) × Whole meaning bs printed b
+Plays meaning start bs now (Ok b) = (told : List ℕ) × (now ≡ start ++ told) × Whole meaning bs told b
 Plays meaning start bs now (Err Memory) = Unit {0}
-Plays meaning start bs now (Err (Form f)) = PrintsWith bs start now (bad_line f)
-Plays meaning start bs now (Err (Sizes e)) = PrintsWith bs start now (refused_sizes_line e)
+Plays meaning start bs now (Err (Form f)) = (told : List ℕ) × (now ≡ start ++ told) × Prints bs (told ++ bad_line f)
+Plays meaning start bs now (Err (Sizes e)) = (told : List ℕ) × (now ≡ start ++ told) × Prints bs (told ++ sizes_line e)
 
 -- `last` is the queue line of a board, whatever calls it has followed
 abbrev pub Queues : {X : Type 0} → (X → Meaning) → Board X → List ℕ → Type 0
@@ -51,4 +45,4 @@ abbrev pub Ends : {X : Type 0} → (X → Meaning) → Result (Board X) RunFault
 Ends meaning (Ok b) last = Queues meaning b last
 Ends meaning (Err Memory) last = ⊥
 Ends meaning (Err (Form f)) last = last ≡ bad_line f
-Ends meaning (Err (Sizes e)) last = last ≡ refused_sizes_line e
+Ends meaning (Err (Sizes e)) last = last ≡ sizes_line e

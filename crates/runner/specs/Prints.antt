@@ -1,5 +1,5 @@
--- What is printed for a text.
-use Rattle.std.specs.Prelude.{◌≡◌, ℕ, ◌+◌, ◌<◌, ◌≤◌, List, [], ◌++◌, length, Ok, Err, Result}
+-- What is printed for a text. Assumes nothing.
+use Rattle.std.specs.Prelude.{◌≡◌, ℕ, ◌+◌, ◌<◌, ◌≤◌, List, [], ◌∷◌, ◌++◌, length, Ok, Err, Result}
 use Rattle.std.specs.List.{AllByRecursion as All}
 use Rattle.stages.specs.declared.answer.Answer.{Answer}
 use Rattle.lock.specs.declared.fault.SizeFault.{SizeFault}
@@ -12,17 +12,16 @@ use Rattle.textline.specs.declared.events.Event.{Event}
 use Rattle.textline.specs.declared.events.SizeLines.{SizeLines}
 use Rattle.textline.specs.declared.faults.FormFault.TheVariants.{TooLong, BadLine}
 use Rattle.textline.specs.Events.{numbers_of}
-use Rattle.textline.specs.Faults.{bad_line}
-use Rattle.textline.specs.Lines.{numbered}
 use Rattle.textline.specs.Numbers.{Small}
 use Rattle.schedule.specs.Schedules.{front_of, text_of, Renders, RendersNone, StopsAt}
 use Rattle.schedule.specs.Sections.{SizeSection}
-use Rattle.report.specs.Texts.{answer_line, refused_sizes_line, queue_line}
+use Rattle.report.specs.Texts.{answer_line, bad_line, sizes_line, queue_line}
 use Rattle.runner.specs.Calls.{calls_of}
 
 -- the lines of answers, the first of which has the number k
 abbrev pub answer_lines : ℕ → List (Result Answer DoorFault) → List ℕ
-answer_lines k rs = numbered answer_line k rs
+answer_lines k [] = []
+answer_lines k (r ∷ rs) = answer_line k r ++ answer_lines (k + 1) rs
 
 -- the lines of what events answer on a new board, numbered from 1
 abbrev pub answered : Size → List Event → List ℕ
@@ -62,7 +61,7 @@ pub data Prints (bs : List ℕ) : List ℕ → Type 0 where
   unsized : (line : ℕ) → length bs ≤ 65535 → line ≤ 4 → StopsAt line bs → Prints bs (bad_line (BadLine line))
   -- no board has these sizes, whatever follows them
   refused : (s : SizeLines) (after : List ℕ) (e : SizeFault) → length bs ≤ 65535 → SizeSection bs s after
-      → asks s ≡ Err e → Prints bs (refused_sizes_line e)
+      → asks s ≡ Err e → Prints bs (sizes_line e)
   -- there is such a board, and the events are run on it
   ran : (s : SizeLines) (after : List ℕ) (z : Size) (x : List ℕ) → length bs ≤ 65535 → SizeSection bs s after
       → asks s ≡ Ok z → Runs bs s z x → Prints bs x
@@ -73,5 +72,4 @@ OnePrint = (bs x y : List ℕ) → Prints bs x → Prints bs y → x ≡ y
 
 -- the promise of the board stands before the first event and after each, on every board that size lines ask for
 abbrev pub PromiseStands : Type 0
-PromiseStands = (s : SizeLines) (z : Size) (es : List Event) → asks s ≡ Ok z
-    → CarriedThroughout z [] (calls_of es) new_door
+PromiseStands = (s : SizeLines) (z : Size) (es : List Event) → asks s ≡ Ok z → CarriedThroughout z [] (calls_of es)

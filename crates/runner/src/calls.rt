@@ -4,9 +4,19 @@ ghost use Rattle.door.specs.declared.call.Call.TheVariants.{Request};
 ghost use Rattle.runner.specs.Calls.{call_of_event};
 
 use door::call::Call;
-use door::request::{ADD, ENTER_TO_READ, ENTER_TO_WRITE, LEAVE, SHOW};
 use lock::values::NodeValues;
 use schedule::Event;
+
+// The kinds of requests.
+const ENTER_TO_READ: u16 = 1;
+
+const ENTER_TO_WRITE: u16 = 2;
+
+const LEAVE: u16 = 3;
+
+const ADD: u16 = 4;
+
+const SHOW: u16 = 5;
 
 // A request of five numbers.
 fn request(card: u16, toggle: u16, kind: u16, first: u16, second: u16) -> Call

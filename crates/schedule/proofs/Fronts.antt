@@ -1,74 +1,38 @@
--- A text of which the first lines are known: what some schedule's text goes on with.
-use Rattle.std.proofs.Common.{◌≡◌, ℕ, ◌+◌, ◌<◌, ◌≤◌, List, [], ◌∷◌, ◌++◌, map, length, get_or, take, drop, decimal, sym, refl, ap, ◌∙◌, append_assoc, arith, length-take-le}
+-- A text of which the first lines are known: what some schedule's text goes on with. Assumes nothing.
+use Rattle.std.proofs.Common.{◌≡◌, ℕ, suc, ◌+◌, ◌<◌, ◌≤◌, List, [], ◌∷◌, ◌++◌, map, length, get_or, take, drop, decimal, sym, refl, ap, ◌∙◌, subst, append_assoc, arith, length-take-le}
 use Rattle.std.specs.List.{AllByRecursion as All}
 use Rattle.std.proofs.lemmas.Fmt.{decimal_injective}
-use Rattle.std.proofs.ByRecursion.{All-append, All-map, All-weaker, All-take, All-push}
+use Rattle.std.proofs.ByRecursion.{All-map, All-weaker, All-take, All-push}
 use Rattle.std.proofs.lemmas.List.{take-take, drop-take, drop_more}
 use Rattle.textline.specs.declared.events.Event.{Event}
 use Rattle.textline.specs.declared.events.SizeLines.{SizeLines}
 use Rattle.textline.specs.Events.{written, numbers_of}
 use Rattle.textline.specs.Lines.{NoEnd, NumberLine}
 use Rattle.textline.specs.Numbers.{Small}
-use Rattle.schedule.specs.Schedules.{front_of, lines_of, text_of, WithinLimits, Fits, StopsAt}
+use Rattle.schedule.specs.Schedules.{lines_of, text_of, Sound, Fits, StopsAt}
 use Rattle.textline.proofs.Ends.{one_cut, no_end_decimal, no_end_written}
 
--- the size lines
-abbrev pub sizes_of : SizeLines → List (List ℕ)
-sizes_of s = decimal 3 ∷ decimal s.cards ∷ decimal s.nodes ∷ decimal s.counters ∷ []
-
--- no size line has a line end within it
-pub no_ends_sizes : (s : SizeLines) → Small (s.cards ∷ s.nodes ∷ s.counters ∷ []) → All NoEnd (sizes_of s)
-no_ends_sizes s h = (
-  no_end_decimal 3 (omega arith),
-  (
-    no_end_decimal s.cards h.0,
-    (no_end_decimal s.nodes h.1.0, (no_end_decimal s.counters h.1.1.0, tt)),
-  ),
-)
-
--- no line up to some event has a line end within it
-pub no_ends_front : (s : SizeLines) (count : ℕ) (done : List Event) → Small (s.cards ∷ s.nodes ∷ s.counters ∷ [])
-    → count < 65536 → All (λ e. Small (numbers_of e)) done → All NoEnd (front_of s count done)
-no_ends_front s count done sizes few events =
-    All-append NoEnd (sizes_of s) (decimal count ∷ map written done) (no_ends_sizes s sizes) (
-      no_end_decimal count few,
-      All-map NoEnd written done
-          (All-weaker (λ e. Small (numbers_of e)) (λ e. NoEnd (written e)) no_end_written done events),
-    )
-
 -- no line of a schedule has a line end within it
-pub no_ends : (s : SizeLines) (es : List Event) → WithinLimits s es → All NoEnd (lines_of s es)
+pub no_ends : (s : SizeLines) (es : List Event) → Sound s es → All NoEnd (lines_of s es)
 no_ends s es h =
     let few = h.few in
-    no_ends_front s (length es) es h.sizes (omega arith) h.events
-
--- sizes can be told from their lines
-pub same_size_lines : (s t : SizeLines) → Small (s.cards ∷ s.nodes ∷ s.counters ∷ [])
-    → Small (t.cards ∷ t.nodes ∷ t.counters ∷ []) → sizes_of s ≡ sizes_of t → s ≡ t
-same_size_lines s t p q e =
-    let pc = p.0 in
-    let pn = p.1.0 in
-    let pk = p.1.1.0 in
-    let qc = q.0 in
-    let qn = q.1.0 in
-    let qk = q.1.1.0 in
-    let cards = decimal_injective s.cards t.cards (omega arith) (omega arith) (ap (λ l. get_or l 1 []) e) in
-    let nodes = decimal_injective s.nodes t.nodes (omega arith) (omega arith) (ap (λ l. get_or l 2 []) e) in
-    let counters = decimal_injective s.counters t.counters (omega arith) (omega arith)
-    (ap (λ l. get_or l 3 []) e) in
-    (λ i. record { cards = cards i; nodes = nodes i; counters = counters i })
-
--- a text that begins with the first lines of a schedule without events
-pub fits_first : (bs rest : List ℕ) (s : SizeLines) (lines : ℕ) → Small (s.cards ∷ s.nodes ∷ s.counters ∷ [])
-    → lines ≤ 5 → bs ≡ text_of (take lines (lines_of s [])) ++ rest → Fits lines bs
-fits_first bs rest s lines small le e = record {
-  sizes = s;
-  events = [];
-  after = rest;
-  limits = record { sizes = small; few = omega arith; events = tt };
-  enough = le;
-  whole = e;
-}
+    let count : length es < 65536 = omega arith in (
+      no_end_decimal 3 (omega arith),
+      (
+        no_end_decimal s.cards h.sizes.0,
+        (
+          no_end_decimal s.nodes h.sizes.1.0,
+          (
+            no_end_decimal s.counters h.sizes.1.1.0,
+            (
+              no_end_decimal (length es) count,
+              All-map NoEnd written es
+                  (All-weaker (λ e. Small (numbers_of e)) (λ e. NoEnd (written e)) no_end_written es h.events),
+            ),
+          ),
+        ),
+      ),
+    )
 
 -- texts that begin with as many lines have these lines and what is behind them in common
 pub peel : (done ls : List (List ℕ)) (rest after : List ℕ) → All NoEnd done → All NoEnd ls → length done ≤ length ls
@@ -113,7 +77,7 @@ pub record Next (done : List (List ℕ)) (rest : List ℕ) : Type 0 where
   pub sizes : SizeLines
   pub events : List Event
   pub after : List ℕ
-  pub limits : WithinLimits sizes events
+  pub sound : Sound sizes events
   pub enough : length done < length (lines_of sizes events)
   pub same : take (length done) (lines_of sizes events) ≡ done
   pub goes : rest ≡ get_or (lines_of sizes events) (length done) [] ++ (10 ∷ after)
@@ -127,14 +91,14 @@ one_line L n after lt =
 
 -- a text that begins with one more line of a schedule than are known goes on with that line
 pub next_of : {bs : List ℕ} {done : List (List ℕ)} {rest : List ℕ} (s : SizeLines) (es : List Event) (after : List ℕ)
-    → Begun bs done rest → WithinLimits s es → length done < length (lines_of s es)
+    → Begun bs done rest → Sound s es → length done < length (lines_of s es)
     → bs ≡ text_of (take (length done + 1) (lines_of s es)) ++ after
     → (take (length done) (lines_of s es) ≡ done) × (rest ≡ get_or (lines_of s es) (length done) [] ++ (10 ∷ after))
-next_of {bs} {done} {rest} s es after b limits lt e =
+next_of {bs} {done} {rest} s es after b sound lt e =
     let L = lines_of s es in
     let n = length done in
     let long = length-take-le (n + 1) L (omega arith) in
-    let k = peel done (take (n + 1) L) rest after b.lines (All-take NoEnd (n + 1) L (no_ends s es limits))
+    let k = peel done (take (n + 1) L) rest after b.lines (All-take NoEnd (n + 1) L (no_ends s es sound))
     (omega arith)
     (sym b.whole ∙ e) in
     (sym (take-take n (n + 1) L (omega arith)) ∙ k.0, k.1 ∙ one_line L n after lt)
@@ -144,12 +108,12 @@ pub fits_next : {bs : List ℕ} {done : List (List ℕ)} {rest : List ℕ} → B
     → Next done rest
 fits_next {bs} {done} {rest} b f =
     let le : length done + 1 ≤ length (lines_of f.sizes f.events) = f.enough in
-    let k = next_of f.sizes f.events f.after b f.limits (omega arith) f.whole in
+    let k = next_of f.sizes f.events f.after b f.sound (omega arith) f.whole in
     record {
       sizes = f.sizes;
       events = f.events;
       after = f.after;
-      limits = f.limits;
+      sound = f.sound;
       enough = omega arith;
       same = k.0;
       goes = k.1;

@@ -1,19 +1,21 @@
--- A schedule can be told from its text.
-use Rattle.std.proofs.Common.{◌≡◌, ℕ, ◌<◌, cond, eqb, List, [], ◌∷◌, map, length, get_or, take, sym, refl, ap, ◌∙◌, subst, arith, length-append}
+-- A schedule can be told from its text. Assumes nothing.
+use Rattle.std.proofs.Common.{◌≡◌, ℕ, ◌<◌, ◌≤◌, cond, eqb, List, [], ◌∷◌, ◌++◌, map, length, get_or, decimal, sym, refl, ap, ◌∙◌, subst, arith, length-append}
 use Rattle.std.specs.List.{AllByRecursion as All}
+use Rattle.std.proofs.lemmas.Fmt.{decimal_injective}
 use Rattle.textline.specs.declared.events.Event.{Event}
 use Rattle.textline.specs.declared.events.Event.TheVariants.{Read, Write, Leave, Add, Show, Step, Abort, Reuse}
+use Rattle.textline.specs.declared.events.SizeLines.{SizeLines}
 use Rattle.textline.specs.Events.{letter, numbers_of, written}
 use Rattle.textline.specs.Lines.{NoEnd}
 use Rattle.textline.specs.Numbers.{Field, spelled, Small}
-use Rattle.schedule.specs.Schedules.{lines_of, text_of, OneRendering}
+use Rattle.schedule.specs.Schedules.{lines_of, text_of, Sound, OneRendering}
 use Rattle.textline.proofs.Ends.{one_cut}
-use Rattle.textline.proofs.Fields.{same_field, stops_spelled}
-use Rattle.schedule.proofs.Fronts.{no_ends, same_size_lines}
+use Rattle.textline.proofs.Fields.{same_after, same_first, stops_spelled}
+use Rattle.schedule.proofs.Fronts.{no_ends}
 
 -- the event of a letter and its numbers
-event_of : ℕ → List ℕ → Event
-event_of l ns =
+told : ℕ → List ℕ → Event
+told l ns =
     let at : ℕ → ℕ = λ i. get_or ns i 0 in
     cond (eqb l 114) (Read (at 0) (at 1) (at 2))
     (cond (eqb l 119) (Write (at 0) (at 1) (at 2))
@@ -23,17 +25,17 @@ event_of l ns =
     (cond (eqb l 115) (Step (at 0))
     (cond (eqb l 120) (Abort (at 0)) (Reuse (at 0) (at 1) (at 2) (at 3) (at 4) (at 5))))))))
 
--- an event can be told from its letter and its numbers
-event_of_is : (e : Event) → event_of (letter e) (numbers_of e) ≡ e
-unfolding event_of
-event_of_is (Read card toggle node) = refl
-event_of_is (Write card toggle node) = refl
-event_of_is (Leave card toggle) = refl
-event_of_is (Add card toggle counter amount) = refl
-event_of_is (Show card toggle counter) = refl
-event_of_is (Step card) = refl
-event_of_is (Abort card) = refl
-event_of_is (Reuse card node next prev state spin) = refl
+-- an event is told from its letter and its numbers
+told_is : (e : Event) → told (letter e) (numbers_of e) ≡ e
+unfolding told
+told_is (Read card toggle node) = refl
+told_is (Write card toggle node) = refl
+told_is (Leave card toggle) = refl
+told_is (Add card toggle counter amount) = refl
+told_is (Show card toggle counter) = refl
+told_is (Step card) = refl
+told_is (Abort card) = refl
+told_is (Reuse card node next prev state spin) = refl
 
 -- the text of several numbers begins with the first
 field : (n : ℕ) (ns : List ℕ) → n < 65536 → Field (spelled (n ∷ ns)) n (spelled ns)
@@ -49,9 +51,9 @@ same_numbers (x ∷ xs) [] p q e =
 same_numbers (x ∷ xs) (y ∷ ys) p q e =
     let g = subst (λ l. Field l y (spelled ys)) (sym e) (field y ys q.0) in
     let f = field x xs p.0 in
-    let one = same_field _ _ _ x y f g in
-    let tail = same_numbers xs ys p.1 q.1 one.1 in
-    (λ i. one.0 i ∷ tail i)
+    let head = same_first _ _ _ x y f g in
+    let tail = same_numbers xs ys p.1 q.1 (same_after _ _ _ x y f g) in
+    (λ i. head i ∷ tail i)
 
 -- an event can be told from its line
 pub one_event : (a b : Event) → Small (numbers_of a) → Small (numbers_of b) → written a ≡ written b → a ≡ b
@@ -59,10 +61,10 @@ one_event a b p q e =
     let l : letter a ≡ letter b = cc in
     let s : spelled (numbers_of a) ≡ spelled (numbers_of b) = cc in
     let n = same_numbers (numbers_of a) (numbers_of b) p q s in
-    sym (event_of_is a) ∙ (λ i. event_of (l i) (n i)) ∙ event_of_is b
+    sym (told_is a) ∙ (λ i. told (l i) (n i)) ∙ told_is b
 
 -- events can be told from their lines
-pub same_events : (es fs : List Event) → All (λ e. Small (numbers_of e)) es → All (λ e. Small (numbers_of e)) fs
+same_events : (es fs : List Event) → All (λ e. Small (numbers_of e)) es → All (λ e. Small (numbers_of e)) fs
     → map written es ≡ map written fs → es ≡ fs
 same_events [] [] p q e = refl
 same_events [] (f ∷ fs) p q e =
@@ -92,7 +94,17 @@ same_lines (l ∷ ls) (m ∷ ms) p q e =
 pub one_rendering : OneRendering
 one_rendering s t es fs p q e =
     let lines = same_lines (lines_of s es) (lines_of t fs) (no_ends s es p) (no_ends t fs q) e in
+    let pc = p.sizes.0 in
+    let pn = p.sizes.1.0 in
+    let pk = p.sizes.1.1.0 in
+    let qc = q.sizes.0 in
+    let qn = q.sizes.1.0 in
+    let qk = q.sizes.1.1.0 in
+    let cards = decimal_injective s.cards t.cards (omega arith) (omega arith) (ap (λ l. get_or l 1 []) lines) in
+    let nodes = decimal_injective s.nodes t.nodes (omega arith) (omega arith) (ap (λ l. get_or l 2 []) lines) in
+    let counters = decimal_injective s.counters t.counters (omega arith) (omega arith)
+    (ap (λ l. get_or l 3 []) lines) in
     let written_same : map written es ≡ map written fs = cc in (
-      same_size_lines s t p.sizes q.sizes (ap (take 4) lines),
+      (λ i. record { cards = cards i; nodes = nodes i; counters = counters i }),
       same_events es fs p.events q.events written_same,
     )

@@ -1,4 +1,4 @@
--- A schedule read up to some event: what is known, and what its next line can mean.
+-- A schedule read up to some event: what is known, and what its next line can mean. Assumes nothing.
 use Rattle.std.proofs.Common.{◌≡◌, ℕ, zero, suc, ◌+◌, ◌-◌, ◌<◌, ◌≤◌, List, [], ◌∷◌, ◌++◌, map, length, get_or, take, drop, replicate, decimal, sym, refl, ap, ◌∙◌, subst, append_assoc, append-nil, arith, length-append}
 use lib.ListN.{length-replicate}
 use Rattle.std.specs.List.{AllByRecursion as All}
@@ -9,13 +9,16 @@ use Rattle.textline.specs.declared.events.Event.{Event}
 use Rattle.textline.specs.declared.events.Event.TheVariants.{Step}
 use Rattle.textline.specs.declared.events.SizeLines.{SizeLines}
 use Rattle.textline.specs.Events.{written, numbers_of}
-use Rattle.textline.specs.Lines.{NumberLine, EventLine}
+use Rattle.textline.specs.Lines.{NoEnd, NumberLine, EventLine}
 use Rattle.textline.specs.Numbers.{Small}
-use Rattle.schedule.specs.Schedules.{lines_of, front_of, text_of, Renders, RendersNone, Fits, StopsAt}
+use Rattle.schedule.specs.Schedules.{lines_of, front_of, text_of, Sound, Renders, RendersNone, Fits, StopsAt}
 use Rattle.schedule.specs.Sections.{SizeSection}
 use Rattle.textline.proofs.Ends.{no_end_decimal, no_end_written}
-use Rattle.schedule.proofs.Fronts.{Begun, begun_more, peel, Next, next_of, stops, same_number}
-use Rattle.schedule.proofs.Fronts.{sizes_of, no_ends, no_ends_sizes, same_size_lines, fits_first}
+use Rattle.schedule.proofs.Fronts.{Begun, begun_more, peel, Next, next_of, stops, same_number, no_ends}
+
+-- the size lines
+abbrev sizes_of : SizeLines → List (List ℕ)
+sizes_of s = decimal 3 ∷ decimal s.cards ∷ decimal s.nodes ∷ decimal s.counters ∷ []
 
 -- bs has the sizes s, a count and the events `done`, and goes on with `rest`
 pub record Progress (bs : List ℕ) (s : SizeLines) (count : ℕ) (done : List Event) (rest : List ℕ) : Type 0 where
@@ -30,7 +33,16 @@ pub record Progress (bs : List ℕ) (s : SizeLines) (count : ℕ) (done : List E
 
 -- the size section is four lines that are known
 begun_sizes : (bs head : List ℕ) (s : SizeLines) → SizeSection bs s head → Begun bs (sizes_of s) head
-begun_sizes bs head s h = record { whole = h.whole; lines = no_ends_sizes s h.small }
+begun_sizes bs head s h = record {
+  whole = h.whole;
+  lines = (
+    no_end_decimal 3 (omega arith),
+    (
+      no_end_decimal s.cards h.small.0,
+      (no_end_decimal s.nodes h.small.1.0, (no_end_decimal s.counters h.small.1.1.0, tt)),
+    ),
+  );
+}
 
 -- a text has one size section
 pub same_sizes : (bs a b : List ℕ) (s t : SizeLines) → SizeSection bs s a → SizeSection bs t b → s ≡ t
@@ -38,7 +50,17 @@ same_sizes bs a b s t p q =
     let x = begun_sizes bs a s p in
     let y = begun_sizes bs b t q in
     let same = (peel (sizes_of s) (sizes_of t) a b x.lines y.lines (omega arith) (sym x.whole ∙ y.whole)).0 in
-    same_size_lines s t p.small q.small (sym same)
+    let pc = p.small.0 in
+    let pn = p.small.1.0 in
+    let pk = p.small.1.1.0 in
+    let qc = q.small.0 in
+    let qn = q.small.1.0 in
+    let qk = q.small.1.1.0 in
+    let cards = decimal_injective t.cards s.cards (omega arith) (omega arith) (ap (λ l. get_or l 1 []) same) in
+    let nodes = decimal_injective t.nodes s.nodes (omega arith) (omega arith) (ap (λ l. get_or l 2 []) same) in
+    let counters = decimal_injective t.counters s.counters (omega arith) (omega arith)
+    (ap (λ l. get_or l 3 []) same) in
+    (λ i. record { cards = sym cards i; nodes = sym nodes i; counters = sym counters i })
 
 -- the count is read
 pub progress_none : (bs head body : List ℕ) (s : SizeLines) (count : ℕ) → SizeSection bs s head → count ≤ 2000
@@ -73,7 +95,7 @@ progress_more {bs} {s} {count} {done} {rest} e after p lt line = record {
 }
 
 -- a text is its first k lines and the others
-pub text_split : (ls : List (List ℕ)) (k : ℕ) → text_of ls ≡ text_of (take k ls) ++ text_of (drop k ls)
+text_split : (ls : List (List ℕ)) (k : ℕ) → text_of ls ≡ text_of (take k ls) ++ text_of (drop k ls)
 text_split ls zero = refl
 text_split [] (suc k) = refl
 text_split (l ∷ ls) (suc k) =
@@ -86,7 +108,7 @@ renders_fits bs s es k r le = record {
   sizes = s;
   events = es;
   after = text_of (drop k (lines_of s es));
-  limits = r.limits;
+  sound = r.sound;
   enough = le;
   whole = r.text ∙ text_split (lines_of s es) k;
 }
@@ -95,8 +117,8 @@ renders_fits bs s es k r le = record {
 same_count : (bs head body : List ℕ) (s t : SizeLines) (count : ℕ) (fs : List Event) → SizeSection bs s head
     → NumberLine head count body → Renders bs t fs → length fs ≡ count
 same_count bs head body s t count fs section counted r =
-    let few = r.limits.few in
-    let k = next_of t fs (text_of (drop 5 (lines_of t fs))) (begun_sizes bs head s section) r.limits (omega arith)
+    let few = r.sound.few in
+    let k = next_of t fs (text_of (drop 5 (lines_of t fs))) (begun_sizes bs head s section) r.sound (omega arith)
     (r.text ∙ text_split (lines_of t fs) 5) in
     sym (same_number head body _ count (length fs) counted (record { small = omega arith; whole = k.1 })).0
 
@@ -111,10 +133,17 @@ pub count_stops : (bs head : List ℕ) (s : SizeLines) → SizeSection bs s head
     → ((n : ℕ) (after : List ℕ) → n ≤ 2000 → NumberLine head n after → ⊥) → StopsAt 5 bs
 count_stops bs head s section none =
     stops 5 (omega arith) (begun_sizes bs head s section)
-    (fits_first bs head s 4 section.small (omega arith) section.whole)
+    (record {
+      sizes = s;
+      events = [];
+      after = head;
+      sound = record { sizes = section.small; few = omega arith; events = tt };
+      enough = omega arith;
+      whole = section.whole;
+    })
     (λ x.
-    let few = x.limits.few in
-    none (length x.events) x.after x.limits.few (record { small = omega arith; whole = x.goes }))
+    let few = x.sound.few in
+    none (length x.events) x.after x.sound.few (record { small = omega arith; whole = x.goes }))
 
 -- what holds of an event holds of its copies
 all_same : (P : Event → Type 0) (n : ℕ) (e : Event) → P e → All P (replicate n e)
@@ -144,7 +173,7 @@ module _ {bs : List ℕ} {s : SizeLines} {count : ℕ} {done : List Event} {rest
         sizes = s;
         events = done ++ more;
         after = rest;
-        limits = record {
+        sound = record {
           sizes = p.section.small;
           few = omega arith;
           events = All-append (λ e. Small (numbers_of e)) done more p.events
@@ -158,7 +187,7 @@ module _ {bs : List ℕ} {s : SizeLines} {count : ℕ} {done : List Event} {rest
   next_count : (x : Next (front_of s count done) rest) → length x.events ≡ count
   next_count x =
       let few = p.few in
-      let most = x.limits.few in
+      let most = x.sound.few in
       decimal_injective (length x.events) count (omega arith) (omega arith) (ap (λ l. get_or l 4 []) x.same)
 
   -- an event is to come, and the next line is that of none
@@ -170,7 +199,7 @@ module _ {bs : List ℕ} {s : SizeLines} {count : ℕ} {done : List Event} {rest
       let i = length (map written done) in
       let at : i < length x.events = omega (arith, length-map done written, next_count x) in
       none (get_or x.events i (Step 0)) x.after (record {
-        small = All-get_or (λ e. Small (numbers_of e)) x.events i (Step 0) at x.limits.events;
+        small = All-get_or (λ e. Small (numbers_of e)) x.events i (Step 0) at x.sound.events;
         whole = x.goes ∙ ap (λ l. l ++ (10 ∷ x.after)) (get_or-map written x.events i (Step 0) [] at);
       }))
 
@@ -195,7 +224,7 @@ module _ {bs : List ℕ} {s : SizeLines} {count : ℕ} {done : List Event} {rest
       let same = same_count bs p.head p.body s t count fs p.section p.counted r in
       let m = length-map done written in
       let n = length-map fs written in
-      let k = peel (front_of s count done) (lines_of t fs) rest [] p.begun.lines (no_ends t fs r.limits)
+      let k = peel (front_of s count done) (lines_of t fs) rest [] p.begun.lines (no_ends t fs r.sound)
       (omega arith)
       (sym p.begun.whole ∙ r.text ∙ sym (append-nil (text_of (lines_of t fs)))) in
       some (k.1 ∙ ap (λ l. text_of l ++ []) (drop_all (length (front_of s count done)) (lines_of t fs) (omega arith)))
@@ -205,7 +234,7 @@ module _ {bs : List ℕ} {s : SizeLines} {count : ℕ} {done : List Event} {rest
   progress_all is none =
       let few = p.few in
       record {
-        limits = record { sizes = p.section.small; few = omega arith; events = p.events };
+        sound = record { sizes = p.section.small; few = omega arith; events = p.events };
         text = p.begun.whole ∙ ap (λ l. text_of (front_of s count done) ++ l) none
             ∙ append-nil (text_of (front_of s count done))
             ∙ ap (λ n. text_of (front_of s n done)) (sym is);

@@ -1,5 +1,5 @@
--- A whole schedule as text: its rendering, and the first line where a text is the rendering of none.
-use Rattle.std.specs.Prelude.{◌≡◌, ℕ, ◌+◌, ◌≤◌, List, [], ◌∷◌, ◌++◌, map, length, take, decimal}
+-- A whole schedule as text: its rendering, and the first line where a text is the rendering of none. Assumes nothing.
+use Rattle.std.specs.Prelude.{◌≡◌, ℕ, ◌+◌, ◌<◌, ◌≤◌, List, [], ◌∷◌, ◌++◌, map, length, take, decimal}
 use Rattle.std.specs.List.{AllByRecursion as All}
 use Rattle.textline.specs.declared.events.Event.{Event}
 use Rattle.textline.specs.declared.events.SizeLines.{SizeLines}
@@ -25,14 +25,14 @@ abbrev pub rendered : SizeLines → List Event → List ℕ
 rendered s es = text_of (lines_of s es)
 
 -- sizes and events that a schedule can hold: numbers of at most 65,535, and at most 2,000 events
-pub record WithinLimits (s : SizeLines) (es : List Event) : Type 0 where
+pub record Sound (s : SizeLines) (es : List Event) : Type 0 where
   pub sizes : Small (s.cards ∷ s.nodes ∷ s.counters ∷ [])
   pub few : length es ≤ 2000
   pub events : All (λ e. Small (numbers_of e)) es
 
 -- this text is the rendering of these sizes and events
 pub record Renders (bs : List ℕ) (s : SizeLines) (es : List Event) : Type 0 where
-  pub limits : WithinLimits s es
+  pub sound : Sound s es
   pub text : bs ≡ rendered s es
 
 -- this text is the rendering of no schedule
@@ -42,7 +42,7 @@ RendersNone bs = (s : SizeLines) (es : List Event) → Renders bs s es → ⊥
 -- two schedules that differ never have one text
 abbrev pub OneRendering : Type 0
 OneRendering =
-    (s t : SizeLines) (es fs : List Event) → WithinLimits s es → WithinLimits t fs → rendered s es ≡ rendered t fs
+    (s t : SizeLines) (es fs : List Event) → Sound s es → Sound t fs → rendered s es ≡ rendered t fs
     → (s ≡ t) × (es ≡ fs)
 
 -- bs begins with the first k lines of some schedule's text
@@ -50,7 +50,7 @@ pub record Fits (k : ℕ) (bs : List ℕ) : Type 0 where
   pub sizes : SizeLines
   pub events : List Event
   pub after : List ℕ
-  pub limits : WithinLimits sizes events
+  pub sound : Sound sizes events
   pub enough : k ≤ length (lines_of sizes events)
   pub whole : bs ≡ text_of (take k (lines_of sizes events)) ++ after
 

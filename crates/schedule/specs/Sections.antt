@@ -1,4 +1,4 @@
--- What each call takes off the front of a schedule.
+-- What each call takes off the front of a schedule. Assumes nothing.
 use Rattle.std.specs.Prelude.{◌≡◌, ℕ, ◌+◌, ◌<◌, ◌≤◌, List, [], ◌∷◌, ◌++◌, length, Ok, Err, decimal, Result, ◌≢◌}
 use Rattle.std.specs.Borrow.{Bor}
 use Rattle.textline.specs.declared.events.Event.{Event}

@@ -1,6 +1,6 @@
 // The rows of the table of steps: a card's stage names its row, and each row makes one memory call.
 ghost use Rattle.std.specs.Prelude.{◌≡◌, ℕ};
-ghost use Rattle.stages.specs.Rows.{call_of, begin_of, by_transaction};
+ghost use Rattle.stages.specs.Rows.{call_of, begin_of, in_transaction, by_transaction};
 
 use crate::stage::Stage;
 use memory::call::MemoryCall;
@@ -54,5 +54,18 @@ pub fn has_transaction(stage: Stage) -> bool
         Stage::ReaderEnters { at, .. } => at.has_transaction(),
         Stage::WriterLeaves { at, .. } => at.has_transaction(),
         Stage::ReaderLeaves { at, .. } => at.has_transaction(),
+    }
+}
+
+// Whether a call goes by a transaction.
+pub fn in_transaction(call: MemoryCall) -> bool
+    ensures { result ≡ in_transaction call }
+{
+    match call {
+        MemoryCall::Read { .. }
+        | MemoryCall::Write { .. }
+        | MemoryCall::Commit { .. }
+        | MemoryCall::Drop { .. } => true,
+        _ => false,
     }
 }

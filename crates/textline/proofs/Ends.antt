@@ -1,5 +1,5 @@
--- Where a line ends, and that a text is cut into lines in one way.
-use Rattle.std.proofs.Common.{◌≡◌, ℕ, suc, ◌+◌, ◌-◌, ◌<◌, List, [], ◌∷◌, ◌++◌, length, get_or, take, drop, decimal, sym, refl, ap, ◌∙◌, add-zero, arith, length-append, take-append-drop, length-take-le, get_or-take}
+-- Where a line ends, and that a text is cut into lines in one way. Assumes nothing.
+use Rattle.std.proofs.Common.{◌≡◌, ℕ, suc, ◌+◌, ◌-◌, ◌<◌, ◌≤◌, List, [], ◌∷◌, ◌++◌, length, get_or, take, drop, decimal, sym, refl, ap, ◌∙◌, subst, add-zero, arith, length-append, take-append-drop, length-take-le, get_or-take}
 use native.Mathlib.Nat.{sub-zero}
 use Rattle.std.specs.List.{AllByRecursion as All}
 use Rattle.std.proofs.lemmas.Fmt.{digits_decimal}
@@ -86,24 +86,20 @@ no_end_decimal n h = no_end_inked (decimal n) (inked_decimal n h)
 pub no_end_written : (e : Event) → Small (numbers_of e) → NoEnd (written e)
 no_end_written e h = no_end_inked (written e) (inked_letter e, inked_spelled (numbers_of e) h)
 
--- the line that is cut off is the one that the text begins with
-line_of_cut : (s line rest first after : List ℕ) → Cut s line rest → NoEnd first → s ≡ first ++ (10 ∷ after)
-    → line ≡ first
-line_of_cut s line rest first after c none whole =
-    sym (one_cut first after line rest none c.one (sym whole ∙ c.whole)).0
-
 -- the line that is cut off holds the number that the text begins with
 pub number_of_cut : (s line rest after : List ℕ) (n : ℕ) → Cut s line rest → NumberLine s n after → Numeral line n
 number_of_cut s line rest after n c h = record {
   small = h.small;
-  text = line_of_cut s line rest (decimal n) after c (no_end_decimal n h.small) h.whole;
+  text =
+      sym (one_cut (decimal n) after line rest (no_end_decimal n h.small) c.one (sym h.whole ∙ c.whole)).0;
 }
 
 -- the line that is cut off writes the event that the text begins with
 pub event_of_cut : (s line rest after : List ℕ) (e : Event) → Cut s line rest → EventLine s e after → Writes line e
 event_of_cut s line rest after e c h = record {
   small = h.small;
-  text = line_of_cut s line rest (written e) after c (no_end_written e h.small) h.whole;
+  text =
+      sym (one_cut (written e) after line rest (no_end_written e h.small) c.one (sym h.whole ∙ c.whole)).0;
 }
 
 -- a line cut off that holds a number is a number line

@@ -1,4 +1,4 @@
--- Where a number ends in a text.
+-- Where a number ends in a text. Assumes nothing.
 use Rattle.std.proofs.Common.{◌≡◌, ℕ, ◌+◌, ◌<◌, ◌≤◌, List, [], ◌∷◌, ◌++◌, length, get_or, take, drop, set, decimal, sym, refl, ap, ◌∙◌, subst, ⊎_elim, append_assoc, append-nil, add-zero, arith, length-append}
 use Rattle.std.specs.Int.{IsInRange}
 use Rattle.std.specs.Str.Parse.{AllDigits}
@@ -7,7 +7,7 @@ use Rattle.std.proofs.lemmas.List.{take_at, take_all, drop_at, drop_all, drop_mo
 use Rattle.std.proofs.ByRecursion.{All-get_or, All-push}
 use Rattle.std.proofs.lemmas.Str.Parse.{digit_at}
 use Rattle.std.proofs.str.Laws.{order}
-use Rattle.textline.specs.Numbers.{Field, NoDigitFirst, spelled, Small, Spells}
+use Rattle.textline.specs.Numbers.{Field, Stops, spelled, Small, Spells}
 use Rattle.textline.proofs.Decimals.{own}
 
 -- the first k bytes of bs are digits, and the next is none
@@ -16,8 +16,7 @@ pub record Run (bs : List ℕ) (k : ℕ) : Type 0 where
   pub stops : IsInRange 48 57 (get_or bs k 0) → ⊥
 
 -- the run of digits ends where the number does
-pub run_is : (bs ds after : List ℕ) (k : ℕ) → Run bs k → bs ≡ ds ++ after → AllDigits 10 ds → NoDigitFirst after
-    → k ≡ length ds
+pub run_is : (bs ds after : List ℕ) (k : ℕ) → Run bs k → bs ≡ ds ++ after → AllDigits 10 ds → Stops after → k ≡ length ds
 run_is bs ds after k r e d st =
     let next : get_or bs (length ds) 0 ≡ get_or after 0 0 = ap (λ l. get_or l (length ds) 0) e
     ∙ ap (λ i. get_or (ds ++ after) i 0) (sym (add-zero (length ds))) ∙ get_or-append-add ds after 0 0 in
@@ -29,7 +28,7 @@ run_is bs ds after k r e d st =
     (order k (length ds))
 
 -- the run of digits is the text of the number
-pub front_is : (bs after : List ℕ) (k n : ℕ) → Run bs k → n < 65536 → bs ≡ decimal n ++ after → NoDigitFirst after
+pub front_is : (bs after : List ℕ) (k n : ℕ) → Run bs k → n < 65536 → bs ≡ decimal n ++ after → Stops after
     → take k bs ≡ decimal n
 front_is bs after k n r lt e st =
     ap (take k) e ∙ take_at (decimal n) after k (sym (run_is bs (decimal n) after k r e
@@ -42,8 +41,8 @@ cancel xs ys a e =
     sym (take_at xs a (length xs) refl) ∙ ap (take (length xs)) e ∙ take_at ys a (length xs) (sym len)
 
 -- a field is read in one way
-pub same_field : (bs a b : List ℕ) (n m : ℕ) → Field bs n a → Field bs m b → (n ≡ m) × (a ≡ b)
-same_field bs a b n m f g =
+pub same_after : (bs a b : List ℕ) (n m : ℕ) → Field bs n a → Field bs m b → a ≡ b
+same_after bs a b n m f g =
     let p = f.small in
     let q = g.small in
     let x = f.whole in
@@ -57,14 +56,22 @@ same_field bs a b n m f g =
     } in
     let long = run_is (decimal n ++ a) (decimal m) b (length (decimal n)) run e (digits_decimal own m (omega arith))
     g.stops in
-    let after : a ≡ b =
     sym (drop_at (decimal n) a (length (decimal n)) refl) ∙ ap (drop (length (decimal n))) e
-    ∙ drop_at (decimal m) b (length (decimal n)) (sym long) in
-    let number : decimal n ++ a ≡ decimal m ++ a = cc in
-    (decimal_injective n m (omega arith) (omega arith) (cancel (decimal n) (decimal m) a number), after)
+    ∙ drop_at (decimal m) b (length (decimal n)) (sym long)
+
+-- and gives one number
+pub same_first : (bs a b : List ℕ) (n m : ℕ) → Field bs n a → Field bs m b → n ≡ m
+same_first bs a b n m f g =
+    let p = f.small in
+    let q = g.small in
+    let x = f.whole in
+    let y = g.whole in
+    let after = same_after bs a b n m f g in
+    let e : decimal n ++ a ≡ decimal m ++ a = cc in
+    decimal_injective n m (omega arith) (omega arith) (cancel (decimal n) (decimal m) a e)
 
 -- no digit stands before the first of several numbers
-pub stops_spelled : (ns : List ℕ) → NoDigitFirst (spelled ns)
+pub stops_spelled : (ns : List ℕ) → Stops (spelled ns)
 stops_spelled [] h = omega (arith, h)
 stops_spelled (n ∷ ns) h = omega (arith, h)
 
@@ -110,7 +117,7 @@ got_more s out rest after i n lt g f = record {
       ∙ sym (ap (λ l. spelled l ++ after) (take_more_set out i n lt) ∙ spelled_push (take i out) n after);
   only = λ ns all le e.
       let here : i < length ns = omega arith in
-      (same_field rest after _ n (get_or ns i 0) f (next_field ns rest i all here (g.only ns all (omega arith) e))).1;
+      same_after rest after _ n (get_or ns i 0) f (next_field ns rest i all here (g.only ns all (omega arith) e));
   small = subst Small (sym (take_more_set out i n lt)) (All-push (λ k. k < 65536) (take i out) n g.small f.small);
 }
 

@@ -2,4 +2,3 @@ pub mod Decimals
 pub mod Fields
 pub mod Letters
 pub mod Ends
-pub mod Numbered

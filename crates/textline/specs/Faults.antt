@@ -1,5 +1,5 @@
--- Number, line and words of a fault of form.
-use Rattle.std.specs.Prelude.{ℕ, List, [], ◌∷◌, ◌++◌, codes, decimal}
+-- Number, line and words of a fault of form. Assumes nothing.
+use Rattle.std.specs.Prelude.{ℕ, List, ◌++◌, codes, decimal}
 use Rattle.textline.specs.declared.faults.FormFault.{FormFault}
 use Rattle.textline.specs.declared.faults.FormFault.TheVariants.{TooLong, BadLine}
 
@@ -14,9 +14,5 @@ form_line TooLong = 0
 form_line (BadLine line) = line
 
 -- `bad`, the line and the number, one space between each two
-abbrev pub bad_text : FormFault → List ℕ
-bad_text f = codes "bad " ++ (decimal (form_line f) ++ (codes " " ++ decimal (form_number f)))
-
--- the same as a line
-abbrev pub bad_line : FormFault → List ℕ
-bad_line f = bad_text f ++ (10 ∷ [])
+abbrev pub form_words : FormFault → List ℕ
+form_words f = codes "bad " ++ (decimal (form_line f) ++ (codes " " ++ decimal (form_number f)))

@@ -1,5 +1,5 @@
--- Lines of a schedule.
-use Rattle.std.specs.Prelude.{◌≡◌, ℕ, ◌+◌, ◌<◌, List, [], ◌∷◌, ◌++◌, length, Some, None, decimal, Option, ◌≢◌, slice_index}
+-- Lines of a schedule. Assumes nothing.
+use Rattle.std.specs.Prelude.{◌≡◌, ℕ, ◌<◌, List, [], ◌∷◌, ◌++◌, length, Some, None, decimal, Option, ◌≢◌, slice_index}
 use Rattle.std.specs.Borrow.{Bor}
 use Rattle.textline.specs.declared.events.Event.{Event}
 use Rattle.textline.specs.Events.{written, numbers_of}
@@ -38,8 +38,3 @@ CutsNumber bs None = (n : ℕ) (after : List ℕ) → NumberLine bs n after → 
 abbrev pub CutsEvent : List ℕ → Option (Event × Bor (List ℕ)) → Type 0
 CutsEvent bs (Some p) = EventLine bs p.0 p.1.now
 CutsEvent bs None = (e : Event) (after : List ℕ) → EventLine bs e after → ⊥
-
--- the lines of items one after another, the first of which has the number k
-abbrev pub numbered : {A : Type 0} → (ℕ → A → List ℕ) → ℕ → List A → List ℕ
-numbered line k [] = []
-numbered line k (x ∷ xs) = line k x ++ numbered line (k + 1) xs

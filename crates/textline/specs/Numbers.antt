@@ -1,4 +1,4 @@
--- How a number stands in a schedule.
+-- How a number stands in a schedule. Assumes nothing.
 use Rattle.std.specs.Prelude.{◌≡◌, ℕ, ◌<◌, List, [], ◌∷◌, ◌++◌, length, Some, None, decimal, Option, slice_index, slice_index_or}
 use Rattle.std.specs.Borrow.{Bor}
 use Rattle.std.specs.List.{AllByRecursion as All}
@@ -21,14 +21,14 @@ pub record StartsPlain (bs : List ℕ) : Type 0 where
   pub alone : slice_index_or bs 0 0 ≡ 48 → length bs ≡ 1
 
 -- no digit stands at the front of bs
-abbrev pub NoDigitFirst : List ℕ → Type 0
-NoDigitFirst bs = IsInRange 48 57 (slice_index bs 0) → ⊥
+abbrev pub Stops : List ℕ → Type 0
+Stops bs = IsInRange 48 57 (slice_index bs 0) → ⊥
 
 -- bs is a space, the number n and what follows, which begins with no digit
 pub record Field (bs : List ℕ) (n : ℕ) (after : List ℕ) : Type 0 where
   pub small : n < 65536
   pub whole : bs ≡ 32 ∷ (decimal n ++ after)
-  pub stops : NoDigitFirst after
+  pub stops : Stops after
 
 -- the number and what follows it; where there is none, bs begins with no such number
 abbrev pub TakesField : List ℕ → Option (ℕ × Bor (List ℕ)) → Type 0

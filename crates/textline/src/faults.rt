@@ -1,8 +1,7 @@
 // Why a text is no schedule.
-ghost use Rattle.std.specs.Prelude.{◌≡◌, IfOk, Some, string_bytes};
-ghost use Rattle.textline.specs.Faults.{form_number, form_line, bad_text, bad_line};
+ghost use Rattle.std.specs.Prelude.{◌≡◌, Some};
+ghost use Rattle.textline.specs.Faults.{form_number, form_line, form_words};
 
-use std::alloc::{AllocError, Global};
 use std::fmt;
 
 #[derive(Clone, Copy, Debug)]
@@ -36,18 +35,11 @@ impl FormFault {
 }
 
 impl fmt::Display for FormFault {
-    ghost output = { λ f. Some (bad_text f) };
+    ghost output = { λ f. Some (form_words f) };
 
     fn fmt<W: fmt::Write>(&self, f: &mut fmt::Formatter<W>) -> fmt::Result {
         let line = self.line();
         let number = self.number();
         write!(f, "bad {line} {number}")
     }
-}
-
-// The line that says which fault a text has.
-pub fn bad_line(heap: Global, fault: FormFault) -> Result<String, AllocError>
-    ensures { IfOk result (λ s. string_bytes s ≡ bad_line fault) }
-{
-    format!(in heap; "{fault}\n")
 }

@@ -1,6 +1,4 @@
 // Lines of a schedule: each ends with byte 10.
-ghost use Rattle.std.specs.Prelude.{◌≡◌, slice_index};
-ghost use Rattle.textline.specs.declared.events.Event.TheVariants.{Add, Show, Reuse};
 ghost use Rattle.textline.specs.Numbers.{Found};
 ghost use Rattle.textline.specs.Events.{Writes};
 ghost use Rattle.textline.specs.Lines.{CutsLine, CutsNumber, CutsEvent};
@@ -40,47 +38,6 @@ pub fn cut_event(s: &[u8]) -> Option<(Event, &[u8])>
     Some((e, after))
 }
 
-// An add, by the numbers of its line.
-fn add(numbers: [u16; 4]) -> Event
-    ensures { result ≡ Add (slice_index numbers 0) (slice_index numbers 1) (slice_index numbers 2) (slice_index numbers 3) }
-{
-    let [card, toggle, counter, amount] = numbers;
-    Event::Add {
-        card,
-        toggle,
-        counter,
-        amount,
-    }
-}
-
-// A show, by the numbers of its line.
-fn show(numbers: [u16; 3]) -> Event
-    ensures { result ≡ Show (slice_index numbers 0) (slice_index numbers 1) (slice_index numbers 2) }
-{
-    let [card, toggle, counter] = numbers;
-    Event::Show {
-        card,
-        toggle,
-        counter,
-    }
-}
-
-// A reuse, by the numbers of its line.
-fn reuse(numbers: [u16; 6]) -> Event
-    ensures { result ≡ Reuse (slice_index numbers 0) (slice_index numbers 1) (slice_index numbers 2) (slice_index numbers 3)
-        (slice_index numbers 4) (slice_index numbers 5) }
-{
-    let [card, node, next, prev, state, spin] = numbers;
-    Event::Reuse {
-        card,
-        node,
-        next,
-        prev,
-        state,
-        spin,
-    }
-}
-
 // The event that a line without its end writes.
 pub fn read_event(line: &[u8]) -> Option<Event>
     ensures { Found (Writes line.now) result }
@@ -99,8 +56,23 @@ pub fn read_event(line: &[u8]) -> Option<Event>
             let [card, toggle] = numbers::<2>(rest)?;
             Some(Event::Leave { card, toggle })
         }
-        'a' => Some(add(numbers::<4>(rest)?)),
-        'c' => Some(show(numbers::<3>(rest)?)),
+        'a' => {
+            let [card, toggle, counter, amount] = numbers::<4>(rest)?;
+            Some(Event::Add {
+                card,
+                toggle,
+                counter,
+                amount,
+            })
+        }
+        'c' => {
+            let [card, toggle, counter] = numbers::<3>(rest)?;
+            Some(Event::Show {
+                card,
+                toggle,
+                counter,
+            })
+        }
         's' => {
             let [card] = numbers::<1>(rest)?;
             Some(Event::Step { card })
@@ -109,7 +81,17 @@ pub fn read_event(line: &[u8]) -> Option<Event>
             let [card] = numbers::<1>(rest)?;
             Some(Event::Abort { card })
         }
-        'u' => Some(reuse(numbers::<6>(rest)?)),
+        'u' => {
+            let [card, node, next, prev, state, spin] = numbers::<6>(rest)?;
+            Some(Event::Reuse {
+                card,
+                node,
+                next,
+                prev,
+                state,
+                spin,
+            })
+        }
         _ => None,
     }
 }

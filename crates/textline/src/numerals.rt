@@ -1,5 +1,5 @@
 // Numbers in a schedule: decimal, at most 65,535, without needless zeros.
-ghost use Rattle.std.specs.Prelude.{ℕ, ◌<◌, ◌≤◌, length, Decides, slice_index};
+ghost use Rattle.std.specs.Prelude.{◌≡◌, ℕ, ◌<◌, ◌≤◌, length, Decides, slice_index};
 ghost use Rattle.std.specs.Int.{IsInRange};
 ghost use Rattle.textline.specs.Numbers.{Found, Numeral, StartsPlain, TakesField, Spells};
 

@@ -2,7 +2,7 @@
 ghost use Rattle.std.specs.Prelude.{◌≡◌};
 ghost use Rattle.memory.specs.declared.call.MemoryCall.TheVariants.{Read, Write, Load};
 
-use crate::counting::{COUNTER, NORTH, SOUTH};
+use crate::task::{COUNTER, NORTH, SOUTH};
 use memory::call::MemoryCall;
 
 // The card reads the counter in its transaction.

@@ -2,7 +2,7 @@
 ghost use Rattle.std.specs.Prelude.{◌≡◌, IfOk};
 ghost use Rattle.twocars.specs.Agreement.{SameMeaning, Alike, Agrees};
 
-use crate::counting::COUNTER;
+use crate::task::COUNTER;
 use deferred::deferred::Deferred;
 use inplace::inplace::InPlace;
 use memory::call::{MemoryCall, perform};

@@ -4,19 +4,19 @@ use deferred::deferred::Deferred;
 
 mod calls;
 mod compare;
-mod counting;
+mod task;
 mod printing;
 mod reply;
 
 use crate::calls::calls;
 use crate::compare::compare;
-use crate::counting::{count_both, print_observed};
+use crate::task::{count_both, tell};
 use crate::printing::print_comparison;
 
 fn run(rt: HostRuntime) -> anyhow::Result<()> {
     let mut memory = Deferred::new();
     match count_both(&mut memory) {
-        Ok(observed) => print_observed(rt, &observed)?,
+        Ok(observed) => tell(rt, &observed)?,
         Err(fault) => println!(rt; "refused {}", fault.refusal.number())?,
     }
     let comparison = compare(rt.alloc(), &calls())?;

@@ -1,6 +1,6 @@
 // The comparison in words, call by call.
 use crate::compare::{Comparison, Seen};
-use crate::counting::NORTH;
+use crate::task::NORTH;
 use crate::reply::Reply;
 use memory::call::MemoryCall;
 use std::io;

@@ -1,21 +1,14 @@
-use Rattle.std.proofs.Common.{◌≡◌, ℕ, ◌<◌, ◌≤◌, Bool, true, false, eqb, ◌≢◌, ◌⊎◌, map, length, sym, refl, ap, ◌∙◌, inl, inr, arith}
+use Rattle.std.proofs.Common.{◌<◌, ◌≤◌, map, length, sym, ap, ◌∙◌, inl, inr, arith}
 use lib.Seq.{map-set, set-get_or}
 use Rattle.std.proofs.lemmas.List.{get_or-map, length-map}
-use Rattle.std.proofs.lemmas.Bool.{cond-true, cond-false, eqb-true, eqb-false}
-use Rattle.memory.specs.Meaning.{none, struck, conflicts}
+use Rattle.std.proofs.lemmas.Bool.{cond-true, cond-false}
+use Rattle.deferred.specs.declared.log.Transaction.TheVariants.{Doomed}
+use Rattle.memory.specs.Meaning.{none, doomed, struck, conflicts}
 use Rattle.deferred.specs.Deferral.{tx_in}
 use Rattle.memory.proofs.Woven.{others_set, others_kept, others_all}
 use Rattle.deferred.proofs.doom.doom.Goals as goal
-use Rattle.deferred.proofs.doom.doom.Goals.{then-conflicts+then-i-card, else-conflicts}
-use Rattle.deferred.proofs.doom.doom.Goals.{else-conflicts-via-then-conflicts+else-i-card}
-use Rattle.deferred.proofs.doom.doom.Goals.{else-conflicts-via-else-conflicts}
-
--- a record that is left as it is, is the requester's or another's
-at_or_by : (P : Type 0) (i card : ℕ) → P → (i ≡ card) ⊎ ((i ≢ card) × P)
-at_or_by P i card p = go (eqb i card) refl where
-  go : (b : Bool) → eqb i card ≡ b → (i ≡ card) ⊎ ((i ≢ card) × P)
-  go true q = inl (eqb-true i card q)
-  go false q = inr (eqb-false i card q, p)
+use Rattle.deferred.proofs.doom.doom.Goals.{then-i-card+then-conflicts, else-i-card}
+use Rattle.deferred.proofs.doom.doom.Goals.{else-i-card-via-then-i-card+else-conflicts, else-i-card-via-else-i-card}
 
 -- a turn of the loop does the place i
 pub loop-i-preserved : goal.loop-i-preserved
@@ -30,18 +23,17 @@ loop-i-preserved c =
     let k = conflicts c.args.how c.args.cell in
     let card = c.args.card in
     let kept = others_kept f card none ts (map tx_in c.loop-i.txs) i c.loop-i.invariant h in
-    elim c.if-conflicts.branch [
-      | then-conflicts+then-i-card w ↦
+    elim c.if-i-card.branch [
+      | then-i-card+then-conflicts w ↦
           ap (map tx_in) w.txs-is
-          ∙ (map-set tx_in c.loop-i.txs i w.reset.new.self
-          ∙ others_set f card none ts (map tx_in c.loop-i.txs) i c.loop-i.invariant h _ w.if-i-card.true
-          (w.reset.ensures ∙ sym (cond-true _ _ _ (ap k e ∙ sym w.if-conflicts.ensures))))
-      | else-conflicts w ↦ ap (map tx_in) w.txs-is ∙ elim w.else-conflicts.branch [
-        | else-conflicts-via-then-conflicts+else-i-card v ↦
-            ap (map tx_in) (v.txs-is ∙ back) ∙ kept (inl v.if-i-card.false)
-        | else-conflicts-via-else-conflicts v ↦
+          ∙ (map-set tx_in c.loop-i.txs i Doomed
+          ∙ others_set f card none ts (map tx_in c.loop-i.txs) i c.loop-i.invariant h doomed w.if-i-card.true
+          (sym (cond-true _ _ _ (ap k e ∙ sym w.if-conflicts.ensures))))
+      | else-i-card w ↦ ap (map tx_in) w.txs-is ∙ elim w.else-i-card.branch [
+        | else-i-card-via-then-i-card+else-conflicts v ↦
             ap (map tx_in) (v.txs-is ∙ back)
-            ∙ kept (at_or_by _ i card (cond-false _ _ _ (ap k e ∙ sym v.if-conflicts.ensures)))
+            ∙ kept (inr (v.if-i-card.true, cond-false _ _ _ (ap k e ∙ sym v.if-conflicts.ensures)))
+        | else-i-card-via-else-i-card v ↦ ap (map tx_in) (v.txs-is ∙ back) ∙ kept (inl v.if-i-card.false)
       ]
     ]
 

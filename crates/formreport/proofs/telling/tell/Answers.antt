@@ -1,6 +1,6 @@
 use Rattle.std.proofs.Common.{sym, ◌∙◌, append-nil, arith}
-use Rattle.formreport.proofs.Understood.{pushed, opening, fails, fails_memory, before_sizes, before_count}
-use Rattle.formreport.proofs.Understood.{telling_none, telling_more, stops_event, stops_end, tells_all}
+use Rattle.formreport.proofs.Told.{pushed, opening, fails, fails_memory, before_sizes, before_count}
+use Rattle.formreport.proofs.Told.{telling_none, telling_more, stops_event, stops_end, tells_all}
 use Rattle.formreport.proofs.telling.tell.Goals as goal
 
 pub returns-in-err-sizes : goal.returns-in-err-sizes

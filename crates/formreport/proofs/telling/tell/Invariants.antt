@@ -1,5 +1,5 @@
 use Rattle.std.proofs.Common.{string_bytes}
-use Rattle.formreport.proofs.Understood.{Telling}
+use Rattle.formreport.proofs.Told.{Telling}
 use Rattle.formreport.proofs.telling.tell.Given as goal
 
 abbrev pub invariant-loop-index : goal.invariant-loop-index

@@ -3,7 +3,7 @@ use Rattle.board.specs.History.{board_state, board_size}
 use Rattle.runner.proofs.Playing.{Playing}
 use Rattle.runner.proofs.running.play.Given as goal
 
--- `index` events are run and printed
+-- `index` events are run and told
 abbrev pub invariant-loop-index : goal.invariant-loop-index
 invariant-loop-index g l =
     Playing l.text (string_bytes l.initial.out) (string_bytes l.out) (board_size l.board)

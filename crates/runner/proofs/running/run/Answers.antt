@@ -24,14 +24,14 @@ returns-in-err-push-str g c =
 
 pub returns : goal.returns
 returns g c =
-    let printed = string_bytes c.play-end.new.out in
+    let told = string_bytes c.play-end.new.out in
     let last = string_bytes c.in-ok-last-line.field-0 in
     record {
       prints =
-          prints g.M.Memory.meaning c.args.text.now (string_bytes c.new-out.result) printed _ last
+          prints g.M.Memory.meaning c.args.text.now (string_bytes c.new-out.result) told _ last
           c.play-end.result c.new-out.ensures.bytes c.play-end.ensures
           c.in-ok-last-line.ensures
-          (c.in-ok-push-str.ensures.bytes ∙ ap (λ l. printed ++ l) c.as-str.ensures.value);
+          (c.in-ok-push-str.ensures.bytes ∙ ap (λ l. told ++ l) c.as-str.ensures.value);
       one = one_print;
       promise = promise_stands;
     }

@@ -12,4 +12,4 @@ returns-in-err-e c =
     (λ e after h. c.in-err-e.ensures e (event_of_cut _ _ _ after e c.in-ok-line.ensures h))
 
 pub returns : goal.returns
-returns c = event_line_is _ _ _ _ c.in-ok-line.ensures c.in-ok-e.ensures
+returns c = event_line_is _ _ _ _ c.in_ok-line.ensures c.in_ok-e.ensures

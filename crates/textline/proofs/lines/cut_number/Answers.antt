@@ -12,4 +12,4 @@ returns-in-err-n c =
     (λ n after h. c.in-err-n.ensures n (number_of_cut _ _ _ after n c.in-ok-digits.ensures h))
 
 pub returns : goal.returns
-returns c = number_line_is _ _ _ _ c.in-ok-digits.ensures c.in-ok-n.ensures
+returns c = number_line_is _ _ _ _ c.in_ok-digits.ensures c.in_ok-n.ensures

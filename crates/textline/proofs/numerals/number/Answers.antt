@@ -12,4 +12,4 @@ returns-in-default c n num = c.in-default.ensures.cases.0 (utf8_numeral _ n num)
 pub returns : goal.returns
 returns c =
     let read = rw c.in-Ok.ensures.cases.0 at c.parse.ensures.value.0 in
-    rw c.ok.ensures.value (reads_number _ _ read (c.starts-plain.ensures.0 c.if-not-starts-plain.false))
+    rw c.ok.ensures.value (reads_number _ _ read (c.starts_plain.ensures.0 c.if-not-starts_plain.false))

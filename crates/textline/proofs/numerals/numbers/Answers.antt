@@ -1,6 +1,7 @@
-use Rattle.std.proofs.Common.{arith, length-set, true-eqb, false-eqb}
+use Rattle.std.proofs.Common.{◌≡◌, length, sym, ◌∙◌, subst, arith, length-set, rules, true-eqb, false-eqb}
 use lib.ListN.{length-replicate}
-use Rattle.textline.proofs.Fields.{got_none, got_more, got_all, got_extra, got_next}
+use Rattle.textline.specs.Numbers.{Spells}
+use Rattle.textline.proofs.Fields.{Got, got_none, got_more, got_all, got_extra, got_next}
 use Rattle.textline.proofs.numerals.numbers.Goals as goal
 
 pub returns-in-err-n : goal.returns-in-err-n
@@ -12,7 +13,7 @@ returns-in-err-n g c =
 pub loop-i-preserved : goal.loop-i-preserved
 loop-i-preserved g c = (
   simp length-set c.loop-i.invariant.0,
-  got_more _ _ _ _ _ _ (omega arith) c.loop-i.invariant.1 c.in-ok-n.ensures,
+  got_more _ _ _ _ _ _ (omega arith) c.loop-i.invariant.1 c.in_ok-n.ensures,
 )
 
 pub returns-then-is-empty : goal.returns-then-is-empty

@@ -1,27 +1,44 @@
-use Rattle.std.proofs.Common.{◌≡◌, ◌<◌, true, length, Err, ap, ◌∙◌, rules}
+use Rattle.std.proofs.Common.{◌≡◌, ℕ, ◌<◌, true, length, Ok, Err, sym, ap, ◌∙◌, rules}
+use lib.Seq.{map-set}
+use Rattle.std.proofs.lemmas.List.{get_or-map}
 use Rattle.memory.specs.declared.access.Access.TheVariants.{Reads}
-use Rattle.memory.specs.Meaning.{in_range}
-use Rattle.deferred.proofs.Own.{read_by, accepted_by, refused_by}
+use Rattle.memory.specs.Meaning.{none, in_range, standing}
+use Rattle.deferred.specs.Deferral.{tx_in, meaning_of}
+use Rattle.deferred.specs.Own.{own_read}
+use Rattle.deferred.proofs.Own.{reading_by, struck_after_own}
 use Rattle.deferred.proofs.calls.DeferredMemory.read.Goals as goal
 
 pub returns-in-Ok : goal.returns-in-Ok
 returns-in-Ok c =
     let d = c.args.self.now in
-    let old = c.index-self-card.result in
-    let new = c.read.new.self in
-    let h : c.args.card < length d.txs = search rules in
-    let range : in_range c.args.card c.args.cell ≡ true = search rules in
-    let e = read_by d c.args.card c.args.cell old new h _ range c.in-Ok.ensures in
-    let k = accepted_by d c.args.card c.args.cell new h Reads _ _ _ e c.doom.ensures in
-    record { answer = k.0; after = k.1 }
+    let card = c.args.card in
+    let cell = c.args.cell in
+    let h : card < length d.txs = search rules in
+    let r : in_range card cell ≡ true = search rules in
+    let own = get_or-map tx_in d.txs card c.index-self-card.result none h in
+    let e = reading_by (meaning_of d) card cell (tx_in c.read.new.self) _ r
+    (c.in-Ok.ensures ∙ ap (λ t. own_read t cell (standing (meaning_of d) cell)) (sym own)) in
+    record {
+      answer = sym (ap (λ o. o.answer) e);
+      after =
+          ap (λ ts. record { cells = d.cells; txs = ts })
+          (c.doom.ensures ∙ struck_after_own Reads cell card d.txs c.read.new.self h)
+          ∙ sym (ap (λ o. o.after) e);
+    }
 
 pub returns-in-Err : goal.returns-in-Err
 returns-in-Err c =
     let d = c.args.self.now in
-    let old = c.index-self-card.result in
-    let new = c.read.new.self in
-    let h : c.args.card < length d.txs = search rules in
-    let range : in_range c.args.card c.args.cell ≡ true = search rules in
-    let e = read_by d c.args.card c.args.cell old new h _ range c.in-Err.ensures in
-    let k = refused_by d c.args.card c.args.cell new h Reads _ _ e in
-    record { answer = ap Err c.at.ensures ∙ k.0; after = k.1 }
+    let card = c.args.card in
+    let cell = c.args.cell in
+    let h : card < length d.txs = search rules in
+    let r : in_range card cell ≡ true = search rules in
+    let own = get_or-map tx_in d.txs card c.index-self-card.result none h in
+    let e = reading_by (meaning_of d) card cell (tx_in c.read.new.self) _ r
+    (c.in-Err.ensures ∙ ap (λ t. own_read t cell (standing (meaning_of d) cell)) (sym own)) in
+    record {
+      answer = ap Err c.at.ensures ∙ sym (ap (λ o. o.answer) e);
+      after =
+          ap (λ ts. record { cells = d.cells; txs = ts }) (map-set tx_in d.txs card c.read.new.self)
+          ∙ sym (ap (λ o. o.after) e);
+    }

@@ -8,7 +8,7 @@ use Rattle.memory.proofs.Isolation.{clash}
 use Rattle.memory.proofs.Rooms.{room_more}
 use Rattle.memory.proofs.Seeks.{seek_has, found_below}
 use Rattle.deferred.specs.declared.log.Log.{Log}
-use Rattle.deferred.specs.Logs.{writes_of}
+use Rattle.deferred.specs.Deferral.{writes_of}
 use Rattle.deferred.proofs.Writes.{place, found_replaced}
 use Rattle.deferred.proofs.log.Log.record.Goals as goal
 
