@@ -34,7 +34,7 @@ use Rattle.runner.specs.Prints.Prints.{long, unsized, ran}
 use Rattle.runner.specs.Plays.{Plays, Ends}
 use Rattle.runner.proofs.Answering.{calls_push, state_push, answered_push}
 
--- what set-up makes of a judgement of sizes
+-- what set_up makes of a judgement of sizes
 abbrev made_of : {X : Type 0} → X → Result Size SizeFault → Result (Size × DoorState) (Unfit X)
 made_of memory (Ok z) = Ok (z, new_door)
 made_of memory (Err e) = Err (record { fault = e; memory = memory })

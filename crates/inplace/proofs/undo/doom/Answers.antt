@@ -31,7 +31,7 @@ loop-i-preserved c =
       | then-i-card+then-conflicts w ↦
           is (landed cs (undo_of t)) c.if-i-card.cells (set ts i Doomed) c.if-i-card.txs
           (w.cells-is
-          ∙ (w.put-back.ensures ∙ ap (landed cs) (w.saved.ensures ∙ ap undo_of (sym c.index-txs-i.is))))
+          ∙ (w.put_back.ensures ∙ ap (landed cs) (w.saved.ensures ∙ ap undo_of (sym c.index-txs-i.is))))
           w.txs-is
           (done_doom a.how a.card a.cell cells txs i cs ts D h l t w.if-i-card.true c.index-txs-i.is
           (sym w.if-conflicts.ensures))

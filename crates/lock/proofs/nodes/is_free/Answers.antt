@@ -13,11 +13,11 @@ turn cs n i l lt = at_drop_more (λ l. free l n) cs i idle_card (omega arith)
 end : (cs : List Card) (n i : ℕ) → length cs ≡ 8 → 8 ≤ i → free (drop i cs) n ≡ true
 end cs n i l le = at_drop_all (λ l. free l n) cs i (omega arith)
 
-pub returns-then-has-node : goal.returns-then-has-node
-returns-then-has-node c = let e = c.if-has-node.ensures in search (rules, turn)
+pub returns-then-has_node : goal.returns-then-has_node
+returns-then-has_node c = let e = c.if-has_node.ensures in search (rules, turn)
 
 pub loop-card-preserved : goal.loop-card-preserved
-loop-card-preserved c = let e = c.if-has-node.ensures in search (rules, turn)
+loop-card-preserved c = let e = c.if-has_node.ensures in search (rules, turn)
 
 pub returns : goal.returns
 returns c = search (rules, end)

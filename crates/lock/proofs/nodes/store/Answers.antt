@@ -2,9 +2,9 @@ use Rattle.std.proofs.Common.{rules}
 use Rattle.memory.specs.Calls.{performed}
 use Rattle.lock.proofs.nodes.store.Goals as goal
 
-pub returns-in-err-store : goal.returns-in-err-store
+pub returns-in_err-store : goal.returns-in_err-store
 unfolding performed
-returns-in-err-store g c = search rules
+returns-in_err-store g c = search rules
 
 pub returns : goal.returns
 unfolding performed

@@ -18,42 +18,42 @@ pub returns-in-Read : goal.returns-in-Read
 unfolding performed
 returns-in-Read g c = search rules
 
-pub returns-in-err-store : goal.returns-in-err-store
+pub returns-in_err-store : goal.returns-in_err-store
 unfolding performed
-returns-in-err-store g c = search rules
+returns-in_err-store g c = search rules
 
-pub returns-in-err-begin : goal.returns-in-err-begin
+pub returns-in_err-begin : goal.returns-in_err-begin
 unfolding performed
-returns-in-err-begin g c = search rules
+returns-in_err-begin g c = search rules
 
-pub returns-in-err-write : goal.returns-in-err-write
+pub returns-in_err-write : goal.returns-in_err-write
 unfolding performed
-returns-in-err-write g c = search rules
+returns-in_err-write g c = search rules
 
-pub returns-in-err-commit : goal.returns-in-err-commit
+pub returns-in_err-commit : goal.returns-in_err-commit
 unfolding performed
-returns-in-err-commit g c = search rules
+returns-in_err-commit g c = search rules
 
-pub returns-in-err-drop : goal.returns-in-err-drop
+pub returns-in_err-drop : goal.returns-in_err-drop
 unfolding performed
-returns-in-err-drop g c = search rules
+returns-in_err-drop g c = search rules
 
-pub returns-in-ok-store : goal.returns-in-ok-store
+pub returns-in_ok-store : goal.returns-in_ok-store
 unfolding performed
-returns-in-ok-store g c = search rules
+returns-in_ok-store g c = search rules
 
-pub returns-in-ok-begin : goal.returns-in-ok-begin
+pub returns-in_ok-begin : goal.returns-in_ok-begin
 unfolding performed
-returns-in-ok-begin g c = search rules
+returns-in_ok-begin g c = search rules
 
-pub returns-in-ok-write : goal.returns-in-ok-write
+pub returns-in_ok-write : goal.returns-in_ok-write
 unfolding performed
-returns-in-ok-write g c = search rules
+returns-in_ok-write g c = search rules
 
-pub returns-in-ok-commit : goal.returns-in-ok-commit
+pub returns-in_ok-commit : goal.returns-in_ok-commit
 unfolding performed
-returns-in-ok-commit g c = search rules
+returns-in_ok-commit g c = search rules
 
-pub returns-in-ok-drop : goal.returns-in-ok-drop
+pub returns-in_ok-drop : goal.returns-in_ok-drop
 unfolding performed
-returns-in-ok-drop g c = search rules
+returns-in_ok-drop g c = search rules

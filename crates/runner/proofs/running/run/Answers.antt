@@ -4,20 +4,20 @@ use Rattle.runner.proofs.Playing.{prints, prints_none}
 use Rattle.runner.proofs.Promised.{promise_stands}
 use Rattle.runner.proofs.running.run.Goals as goal
 
-pub returns-in-err-last-line : goal.returns-in-err-last-line
-returns-in-err-last-line g c =
+pub returns-in_err-last_line : goal.returns-in_err-last_line
+returns-in_err-last_line g c =
     record {
-      prints = prints_none string_bytes c.args.text.now c.from-residual.result c.from-residual.ensures.0;
+      prints = prints_none string_bytes c.args.text.now c.from_residual.result c.from_residual.ensures.0;
       one = one_print;
       promise = promise_stands;
     }
 
-pub returns-in-err-push-str : goal.returns-in-err-push-str
-returns-in-err-push-str g c =
+pub returns-in_err-push_str : goal.returns-in_err-push_str
+returns-in_err-push_str g c =
     record {
       prints =
-          prints_none string_bytes c.args.text.now c.from-residual-in-err-push-str.result
-          c.from-residual-in-err-push-str.ensures.0;
+          prints_none string_bytes c.args.text.now c.from_residual-in_err-push_str.result
+          c.from_residual-in_err-push_str.ensures.0;
       one = one_print;
       promise = promise_stands;
     }
@@ -25,13 +25,13 @@ returns-in-err-push-str g c =
 pub returns : goal.returns
 returns g c =
     let told = string_bytes c.play-end.new.out in
-    let last = string_bytes c.in-ok-last-line.field-0 in
+    let last = string_bytes c.in_ok-last_line.field_0 in
     record {
       prints =
           prints g.M.Memory.meaning c.args.text.now (string_bytes c.new-out.result) told _ last
           c.play-end.result c.new-out.ensures.bytes c.play-end.ensures
-          c.in-ok-last-line.ensures
-          (c.in-ok-push-str.ensures.bytes ∙ ap (λ l. told ++ l) c.as-str.ensures.value);
+          c.in_ok-last_line.ensures
+          (c.in_ok-push_str.ensures.bytes ∙ ap (λ l. told ++ l) c.as_str.ensures.value);
       one = one_print;
       promise = promise_stands;
     }

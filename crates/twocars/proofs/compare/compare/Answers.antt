@@ -11,7 +11,7 @@ loop-call-preserved c =
     let calls = c.args.calls.now in
     let rounds = vec_items c.loop-call.rounds in
     let more = take_more calls c.loop-call.call-index call.Clear c.loop-call-test.true in
-    rw c.in-ok-push.ensures.items (
+    rw c.in_ok-push.ensures.items (
       map-append (λ (r : Round). r.call) rounds _
           ∙ (λ i. c.loop-call.invariant.0 i ++ c.make-round.ensures.call i ∷ []) ∙ sym more,
       All-push Alike rounds _ c.loop-call.invariant.1 (c.make-round.ensures.alike c.loop-call.invariant.2),

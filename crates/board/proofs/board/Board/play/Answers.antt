@@ -7,8 +7,8 @@ use Rattle.board.proofs.board.Board.play.Goals as goal
 
 pub returns : goal.returns
 returns g c =
-    let made = c.in-ok-board.ensures.gives in
-    let began = c.in-ok-board.ensures.promise in
+    let made = c.in_ok-board.ensures.gives in
+    let began = c.in_ok-board.ensures.promise in
     record {
       gives =
           plays c.args.memory c.args.cards c.args.nodes c.args.counters _

@@ -5,10 +5,10 @@ use Rattle.board.proofs.board.Board.set_up.Goals as goal
 
 pub returns : goal.returns
 returns g c =
-    let made = c.in-ok-door.ensures in
+    let made = c.in_ok-door.ensures in
     record {
       gives = made;
       promise =
-          begins _ (within_of c.in-ok-door.door.lock.sizes) _
+          begins _ (within_of c.in_ok-door.door.lock.sizes) _
           (fresh c.args.memory c.args.cards c.args.nodes c.args.counters _ _ _ refl made);
     }

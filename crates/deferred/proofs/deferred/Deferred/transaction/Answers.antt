@@ -6,7 +6,7 @@ use Rattle.deferred.proofs.deferred.Deferred.transaction.Goals as goal
 
 pub returns : goal.returns
 returns c =
-    let b = c.in-ok-check-range.ensures.cases in (
+    let b = c.in_ok-check_range.ensures.cases in (
       b.0,
       b.1,
       get_or-map tx_in c.args.self.now.txs c.args.card c.index-self-card.result none (search rules),

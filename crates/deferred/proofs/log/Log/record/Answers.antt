@@ -42,7 +42,7 @@ returns c =
     let l = c.args.self.now in
     record {
       writes =
-          cond-false _ _ _ (fresh l _ _ _ c.writes.ensures.value c.find.ensures.first c.in-default.is)
+          cond-false _ _ _ (fresh l _ _ _ c.writes.ensures.value c.find.ensures.first c.in_default.is)
           ∙ room_more l.writes l.written _ (search rules) (search rules);
       kept = λ e. clash true refl e;
       marks = refl;

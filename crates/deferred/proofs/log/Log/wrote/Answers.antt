@@ -6,7 +6,7 @@ use Rattle.deferred.proofs.log.Log.wrote.Goals as goal
 
 pub returns : goal.returns
 returns c =
-    c.is-some.ensures
+    c.is_some.ensures
     ∙ (ap is_some c.find.ensures.first
     ∙ (sym (seek_has place c.args.cell 0 c.writes.result.now)
     ∙ ap (λ ws. wrote ws c.args.cell) c.writes.ensures.value))

@@ -6,8 +6,8 @@ use Rattle.inplace.proofs.Own.{own_at}
 use Rattle.inplace.proofs.Restores.{restored_apart, kept_cells}
 use Rattle.inplace.proofs.inplace.InPlace.keep.Goals as goal
 
-pub invariant-of-self : goal.invariant-of-self
-invariant-of-self c =
+pub invariant_of-self : goal.invariant_of-self
+invariant_of-self c =
     let e = c.args.self.now in
     let card = c.args.card in
     let t = Open c.args.log in

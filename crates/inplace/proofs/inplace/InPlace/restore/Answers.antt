@@ -5,8 +5,8 @@ use Rattle.inplace.proofs.Means.{both}
 use Rattle.inplace.proofs.Restores.{restored_apart, restored_cells, restored_txs}
 use Rattle.inplace.proofs.inplace.InPlace.restore.Goals as goal
 
-pub invariant-of-self : goal.invariant-of-self
-invariant-of-self c =
+pub invariant_of-self : goal.invariant_of-self
+invariant_of-self c =
     let e = c.args.self.now in
     let t = c.index-self-card in
     let card = c.args.card in
@@ -22,8 +22,8 @@ returns c =
     let card = c.args.card in
     let to = c.args.to in
     let h : card < length e.txs = search rules in
-    let l : c.put-back.new.cells ≡ landed e.cells (undo_of t.result) =
-    c.put-back.ensures ∙ ap (landed e.cells) (c.saved.ensures ∙ ap undo_of (sym t.is)) in
+    let l : c.put_back.new.cells ≡ landed e.cells (undo_of t.result) =
+    c.put_back.ensures ∙ ap (landed e.cells) (c.saved.ensures ∙ ap undo_of (sym t.is)) in
     let ts = set e.txs card to in
     both _ _
     (ap (λ cs. landed cs (undoes ts)) l

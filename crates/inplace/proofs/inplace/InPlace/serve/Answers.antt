@@ -4,8 +4,8 @@ use Rattle.inplace.specs.declared.log.Transaction.TheVariants.{Closed}
 use Rattle.inplace.proofs.Dooms.{served_written, served_apart, served_after}
 use Rattle.inplace.proofs.inplace.InPlace.serve.Goals as goal
 
-pub invariant-of-self : goal.invariant-of-self
-invariant-of-self c =
+pub invariant_of-self : goal.invariant_of-self
+invariant_of-self c =
     let a = c.args in
     let e = a.self.now in
     let d = c.doom in

@@ -15,7 +15,7 @@ loop-tx-preserved c =
     let h : i < length ts = omega arith in
     let step = at_drop_more (λ l. value_in (undoes l) cell) ts i t h in
     c.loop-tx.invariant
-    ∙ (step ∙ value_skip (undo_of (get_or ts i t)) (undoes (drop (i + 1) ts)) cell (sym c.in-default.ensures))
+    ∙ (step ∙ value_skip (undo_of (get_or ts i t)) (undoes (drop (i + 1) ts)) cell (sym c.in_default.ensures))
 
 pub returns-in-Some : goal.returns-in-Some
 returns-in-Some c =

@@ -7,7 +7,7 @@ use Rattle.inplace.proofs.inplace.InPlace.transaction.Goals as goal
 
 pub returns : goal.returns
 returns c =
-    let b = c.in-ok-check-range.ensures.cases in
+    let b = c.in_ok-check_range.ensures.cases in
     let e = c.args.self.now in
     let card = c.args.card in
     let t = c.index-self-card.result in

@@ -5,8 +5,8 @@ use Rattle.inplace.proofs.Means.{both}
 use Rattle.inplace.proofs.Own.{own_at}
 use Rattle.inplace.proofs.inplace.InPlace.write_first.Goals as goal
 
-pub invariant-of-self : goal.invariant-of-self
-invariant-of-self c =
+pub invariant_of-self : goal.invariant_of-self
+invariant_of-self c =
     let a = c.args in
     let e = a.self.now in
     let own = own_at e a.card (Open a.log) c.requires.at.0 c.requires.own in

@@ -22,8 +22,8 @@ overwrite-requires c =
       known = sym c.wrote.ensures ∙ c.if-wrote.true;
     }
 
-pub write-first-requires : goal.write-first-requires
-write-first-requires c =
+pub write_first-requires : goal.write_first-requires
+write_first-requires c =
     let s = c.serve-2 in
     record {
       at = c.requires.at;
@@ -71,7 +71,7 @@ returns c =
     record {
       answer = rw r refl;
       after = rw r
-          (c.write-first.ensures
+          (c.write_first.ensures
           ∙ (ap (λ l. with_tx (meaning_of c.serve-2.new.self) a.card (own l)) c.serve-2.ensures.written
           ∙ (ap (λ (m : Meaning). with_tx m a.card (own ws)) c.serve-2.ensures.after
           ∙ served_again Writes a.card a.cell _ (own ws) (meaning_of e))));

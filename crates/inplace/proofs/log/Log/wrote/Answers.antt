@@ -9,7 +9,7 @@ pub returns : goal.returns
 returns c =
     let cell = c.args.cell in
     let ss = c.saved.result.now in
-    c.is-some.ensures
+    c.is_some.ensures
     ∙ (ap is_some c.find.ensures.first
     ∙ (sym (seek_has place cell 0 ss)
     ∙ (wrote_back ss cell ∙ ap (λ us. wrote (map back us) cell) c.saved.ensures.value)))

@@ -2,9 +2,9 @@ use Rattle.std.proofs.Common.{rules}
 use Rattle.memory.specs.Calls.{performed}
 use Rattle.lock.proofs.lock.Lock.abort.Goals as goal
 
-pub returns-in-err-drop : goal.returns-in-err-drop
+pub returns-in_err-drop : goal.returns-in_err-drop
 unfolding performed
-returns-in-err-drop g c = search rules
+returns-in_err-drop g c = search rules
 
 pub returns : goal.returns
 unfolding performed

@@ -5,7 +5,7 @@ use Rattle.memory.proofs.marks.Marks.has.Goals as goal
 
 pub returns : goal.returns
 returns c =
-    c.is-some.ensures
+    c.is_some.ensures
     ∙ (ap is_some c.find.ensures.first
     ∙ (sym (seek_has (λ k. k) c.args.cell 0 c.cells.result.now)
     ∙ ap (λ ms. marked ms c.args.cell) c.cells.ensures.value))
