@@ -16,24 +16,24 @@ impl<M: Memory> Board<M> {
     // Makes a call: a request, a step, an abort or a reuse. A request that is sent again, whatever was called in
     // between but requests of its card, gets the same answer and changes nothing.
     pub fn call(&mut self, call: Call) -> Result<Answer, DoorFault>
-        ensures moves { (result, board_state meaning self.new)
-            ≡ called (board_size self.old) (board_state meaning self.old) call }
+        ensures moves { (result, board_state M.meaning self.new)
+            ≡ called (board_size self.old) (board_state M.meaning self.old) call }
         ensures same { board_size self.new ≡ board_size self.old }
         ensures promise { Carries (board_size self.old) call
-            (board_state meaning self.old) (board_state meaning self.new) result }
+            (board_state M.meaning self.old) (board_state M.meaning self.new) result }
         ensures again { Again (board_size self.old) call
-            (board_state meaning self.new) result }
+            (board_state M.meaning self.new) result }
     {
         self.door.call(call)
     }
 
     // Makes the calls in turn, refused ones too.
     pub fn run(&mut self, calls: &[Call])
-        ensures moves { board_state meaning self.new
-            ≡ ran (board_size self.old) (board_state meaning self.old) calls.now }
+        ensures moves { board_state M.meaning self.new
+            ≡ ran (board_size self.old) (board_state M.meaning self.old) calls.now }
         ensures same { board_size self.new ≡ board_size self.old }
         ensures promise { CarriesAll (board_size self.old) calls.now
-            (board_state meaning self.old) (board_state meaning self.new) }
+            (board_state M.meaning self.old) (board_state M.meaning self.new) }
     {
         self.door.run(calls)
     }
@@ -41,13 +41,13 @@ impl<M: Memory> Board<M> {
     // Writes the nodes in line, in order, into the place, the unused numbers 0, and gives their count.
     pub fn line(&self, place: &mut [u16; 8]) -> usize
         ensures nodes { place.new
-            ≡ placed (nodes_in_line (board_state meaning self.now).lock.meaning
-            (board_state meaning self.now).lock.cards) }
+            ≡ placed (nodes_in_line (board_state M.meaning self.now).lock.meaning
+            (board_state M.meaning self.now).lock.cards) }
         ensures count { result
-            ≡ length (nodes_in_line (board_state meaning self.now).lock.meaning
-            (board_state meaning self.now).lock.cards) }
+            ≡ length (nodes_in_line (board_state M.meaning self.now).lock.meaning
+            (board_state M.meaning self.now).lock.cards) }
         ensures promise { LinesUp (board_size self.now)
-            (board_state meaning self.now) place.new result }
+            (board_state M.meaning self.now) place.new result }
     {
         self.door.line(place)
     }

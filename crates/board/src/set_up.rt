@@ -14,9 +14,9 @@ use memory::memory::Memory;
 impl<M: Memory> Board<M> {
     // Clears the memory and sets a board up on it. Where a size is out of range, the memory comes back as it was.
     pub fn set_up(memory: M, cards: u16, nodes: u16, counters: u16) -> Result<Board<M>, Unfit<M>>
-        ensures gives { given_by meaning result ≡ set_up memory cards nodes counters }
+        ensures gives { given_by M.meaning result ≡ set_up memory cards nodes counters }
         ensures promise { MatchResult result
-            (λ b. StandsAfter (board_size b) [] (board_state meaning b)) (λ _. Unit {0}) }
+            (λ b. StandsAfter (board_size b) [] (board_state M.meaning b)) (λ _. Unit {0}) }
     {
         let door = Door::set_up(memory, cards, nodes, counters)?;
         Ok(Board { door })
@@ -31,9 +31,9 @@ impl<M: Memory> Board<M> {
         counters: u16,
         calls: &[Call],
     ) -> Result<Board<M>, Unfit<M>>
-        ensures gives { given_by meaning result ≡ played memory cards nodes counters calls.now }
+        ensures gives { given_by M.meaning result ≡ played memory cards nodes counters calls.now }
         ensures promise { MatchResult result
-            (λ b. StandsAfter (board_size b) calls.now (board_state meaning b)
+            (λ b. StandsAfter (board_size b) calls.now (board_state M.meaning b)
             × CarriedThroughout (board_size b) [] calls.now new_door) (λ _. Unit {0}) }
     {
         let mut board = Board::set_up(memory, cards, nodes, counters)?;

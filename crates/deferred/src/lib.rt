@@ -1,4 +1,6 @@
 // The first memory: written values are set aside until the commit.
+#![tactic(auto)]
+
 pub mod calls;
 pub mod deferred;
 pub(crate) mod doom;

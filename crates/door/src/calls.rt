@@ -16,9 +16,9 @@ use stages::answer::Answer;
 impl<M: Memory> Door<M> {
     // Takes one row of the table of steps for a card.
     pub fn step(&mut self, card: u16) -> Result<Answer, DoorFault>
-        ensures moves { (result, door_state meaning self.new)
-            ≡ passed (door_state meaning self.old)
-            (stepped (door_size self.old) (lock_state meaning self.old.lock) card) }
+        ensures moves { (result, door_state M.meaning self.new)
+            ≡ passed (door_state M.meaning self.old)
+            (stepped (door_size self.old) (lock_state M.meaning self.old.lock) card) }
         ensures same { self.new.lock.sizes ≡ self.old.lock.sizes }
     {
         Ok(self.lock.step(usize::from(card))?)
@@ -26,9 +26,9 @@ impl<M: Memory> Door<M> {
 
     // Drops a card's transaction and sends the card back to its begin.
     pub fn abort(&mut self, card: u16) -> Result<Answer, DoorFault>
-        ensures moves { (result, door_state meaning self.new)
-            ≡ passed (door_state meaning self.old)
-            (aborted (door_size self.old) (lock_state meaning self.old.lock) card) }
+        ensures moves { (result, door_state M.meaning self.new)
+            ≡ passed (door_state M.meaning self.old)
+            (aborted (door_size self.old) (lock_state M.meaning self.old.lock) card) }
         ensures same { self.new.lock.sizes ≡ self.old.lock.sizes }
     {
         Ok(self.lock.abort(usize::from(card))?)
@@ -36,9 +36,9 @@ impl<M: Memory> Door<M> {
 
     // An idle card stores any four values in a free node's cells.
     pub fn reuse(&mut self, card: u16, node: u16, values: NodeValues) -> Result<Answer, DoorFault>
-        ensures moves { (result, door_state meaning self.new)
-            ≡ passed (door_state meaning self.old)
-            (reused (door_size self.old) (lock_state meaning self.old.lock)
+        ensures moves { (result, door_state M.meaning self.new)
+            ≡ passed (door_state M.meaning self.old)
+            (reused (door_size self.old) (lock_state M.meaning self.old.lock)
             card node values) }
         ensures same { self.new.lock.sizes ≡ self.old.lock.sizes }
     {
@@ -48,19 +48,19 @@ impl<M: Memory> Door<M> {
     // Writes the nodes in line, in order, into the place, the unused numbers 0, and gives their count.
     pub fn line(&self, place: &mut [u16; 8]) -> usize
         ensures nodes { place.new
-            ≡ placed (nodes_in_line (door_state meaning self.now).lock.meaning
-            (door_state meaning self.now).lock.cards) }
+            ≡ placed (nodes_in_line (door_state M.meaning self.now).lock.meaning
+            (door_state M.meaning self.now).lock.cards) }
         ensures count { result
-            ≡ length (nodes_in_line (door_state meaning self.now).lock.meaning
-            (door_state meaning self.now).lock.cards) }
+            ≡ length (nodes_in_line (door_state M.meaning self.now).lock.meaning
+            (door_state M.meaning self.now).lock.cards) }
     {
         self.lock.line(place)
     }
 
     // Makes a call.
     pub fn call(&mut self, call: Call) -> Result<Answer, DoorFault>
-        ensures moves { (result, door_state meaning self.new)
-            ≡ called (door_size self.old) (door_state meaning self.old) call }
+        ensures moves { (result, door_state M.meaning self.new)
+            ≡ called (door_size self.old) (door_state M.meaning self.old) call }
         ensures same { self.new.lock.sizes ≡ self.old.lock.sizes }
     {
         match call {
@@ -79,8 +79,8 @@ impl<M: Memory> Door<M> {
 
     // Makes the calls in turn.
     pub fn run(&mut self, calls: &[Call])
-        ensures moves { door_state meaning self.new
-            ≡ ran (door_size self.old) (door_state meaning self.old) calls.now }
+        ensures moves { door_state M.meaning self.new
+            ≡ ran (door_size self.old) (door_state M.meaning self.old) calls.now }
         ensures same { self.new.lock.sizes ≡ self.old.lock.sizes }
     {
         for call in calls {

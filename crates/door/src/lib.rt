@@ -1,4 +1,6 @@
 // The door before the lock: requests, toggles, what is remembered of each card, and resends.
+#![tactic(auto)]
+
 pub mod call;
 pub mod calls;
 pub mod door;

@@ -57,8 +57,8 @@ impl Memo {
 impl<M: Memory> Door<M> {
     // What the lock does on a request.
     fn serve(&mut self, card: usize, request: Request) -> Result<Answer, LockFault>
-        ensures moves { (result, lock_state meaning self.new.lock)
-            ≡ served (door_size self.old) (lock_state meaning self.old.lock) card request }
+        ensures moves { (result, lock_state M.meaning self.new.lock)
+            ≡ served (door_size self.old) (lock_state M.meaning self.old.lock) card request }
         ensures same { self.new.lock.sizes ≡ self.old.lock.sizes }
         ensures kept { self.new.memos ≡ self.old.memos }
     {
@@ -80,8 +80,8 @@ impl<M: Memory> Door<M> {
         first: u16,
         second: u16,
     ) -> Result<Answer, DoorFault>
-        ensures moves { (result, door_state meaning self.new)
-            ≡ asked (door_size self.old) (door_state meaning self.old)
+        ensures moves { (result, door_state M.meaning self.new)
+            ≡ asked (door_size self.old) (door_state M.meaning self.old)
             card toggle kind first second }
         ensures same { self.new.lock.sizes ≡ self.old.lock.sizes }
     {

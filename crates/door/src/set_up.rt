@@ -25,7 +25,7 @@ fn blank() -> Memo
 impl<M: Memory> Door<M> {
     // A new board of these sizes.
     fn open(memory: M, sizes: Sizes) -> Door<M>
-        ensures fresh { door_state meaning result ≡ new_door }
+        ensures fresh { door_state M.meaning result ≡ new_door }
         ensures same { result.lock.sizes ≡ sizes }
     {
         let lock = Lock::set_up(memory, sizes);
@@ -35,7 +35,7 @@ impl<M: Memory> Door<M> {
 
     // Clears the memory and sets a lock up on it. Where a size is out of range, the memory comes back as it was.
     pub fn set_up(memory: M, cards: u16, nodes: u16, counters: u16) -> Result<Door<M>, Unfit<M>>
-        ensures { given_by meaning result ≡ set_up memory cards nodes counters }
+        ensures { given_by M.meaning result ≡ set_up memory cards nodes counters }
     {
         match Sizes::new(cards, nodes, counters) {
             Ok(sizes) => Ok(Door::open(memory, sizes)),

@@ -1,4 +1,6 @@
 // The second memory: written values go into the cells at once, and old ones are kept to restore.
+#![tactic(auto)]
+
 pub(crate) mod accesses;
 pub mod calls;
 pub mod inplace;

@@ -17,8 +17,8 @@ use stages::stage::Stage;
 impl<M: Memory> Lock<M> {
     // Takes one row of the table of steps for a card: one memory call, and then the card moves by its outcome.
     pub fn step(&mut self, card: usize) -> Result<Answer, LockFault>
-        ensures moves { (result, lock_state meaning self.new)
-            ≡ stepped (size_of self.old.sizes) (lock_state meaning self.old) card }
+        ensures moves { (result, lock_state M.meaning self.new)
+            ≡ stepped (size_of self.old.sizes) (lock_state M.meaning self.old) card }
         ensures same { self.new.sizes ≡ self.old.sizes }
     {
         if !self.sizes.has_card(card) {
@@ -33,8 +33,8 @@ impl<M: Memory> Lock<M> {
 
     // Drops a card's transaction, open or doomed, and sends the card back to its begin.
     pub fn abort(&mut self, card: usize) -> Result<Answer, LockFault>
-        ensures moves { (result, lock_state meaning self.new)
-            ≡ aborted (size_of self.old.sizes) (lock_state meaning self.old) card }
+        ensures moves { (result, lock_state M.meaning self.new)
+            ≡ aborted (size_of self.old.sizes) (lock_state M.meaning self.old) card }
         ensures same { self.new.sizes ≡ self.old.sizes }
     {
         if !self.sizes.has_card(card) {
@@ -51,8 +51,8 @@ impl<M: Memory> Lock<M> {
 
     // An idle card stores any four values in a free node's cells.
     pub fn reuse(&mut self, card: usize, node: u16, values: NodeValues) -> Result<Answer, LockFault>
-        ensures moves { (result, lock_state meaning self.new)
-            ≡ reused (size_of self.old.sizes) (lock_state meaning self.old) card node values }
+        ensures moves { (result, lock_state M.meaning self.new)
+            ≡ reused (size_of self.old.sizes) (lock_state M.meaning self.old) card node values }
         ensures same { self.new.sizes ≡ self.old.sizes }
     {
         if !self.sizes.has_card(card) {

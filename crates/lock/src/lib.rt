@@ -1,4 +1,6 @@
 // The lock on any memory: its sizes, the cards' records, and its calls.
+#![tactic(auto)]
+
 mod advance;
 pub mod events;
 pub mod fault;

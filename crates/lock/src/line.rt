@@ -50,7 +50,7 @@ fn line_link(stage: Stage) -> u16
 
 // The link that stands in the next of the node that a link names.
 fn behind<M: Memory>(memory: &M, link: u16) -> u16
-    ensures { result ≡ behind (meaning memory.now) link }
+    ensures { result ≡ behind (M.meaning memory.now) link }
 {
     match memory.look(cell_of(link, Field::Next)) {
         Ok(next) => next,
@@ -60,7 +60,7 @@ fn behind<M: Memory>(memory: &M, link: u16) -> u16
 
 // Whether a card is in line, on a node whose next is the link.
 fn points_to<M: Memory>(memory: &M, stage: Stage, link: u16) -> bool
-    ensures { result ≡ points (meaning memory.now) stage link }
+    ensures { result ≡ points (M.meaning memory.now) stage link }
 {
     let here = line_link(stage);
     here != 0 && behind(memory, here) == link
@@ -68,7 +68,7 @@ fn points_to<M: Memory>(memory: &M, stage: Stage, link: u16) -> bool
 
 // Whether some card in line points to the link.
 fn has_ahead<M: Memory>(memory: &M, cards: &[Card; 8], link: u16) -> bool
-    ensures { result ≡ has_ahead (meaning memory.now) cards.now link }
+    ensures { result ≡ has_ahead (M.meaning memory.now) cards.now link }
 {
     for card in cards {
         if points_to(memory, card.stage, link) {
@@ -80,7 +80,7 @@ fn has_ahead<M: Memory>(memory: &M, cards: &[Card; 8], link: u16) -> bool
 
 // Whether a card is in line with nobody ahead of it.
 fn leads<M: Memory>(memory: &M, cards: &[Card; 8], stage: Stage) -> bool
-    ensures { result ≡ leads (meaning memory.now) cards.now stage }
+    ensures { result ≡ leads (M.meaning memory.now) cards.now stage }
 {
     let link = line_link(stage);
     link != 0 && !has_ahead(memory, cards, link)
@@ -88,7 +88,7 @@ fn leads<M: Memory>(memory: &M, cards: &[Card; 8], stage: Stage) -> bool
 
 // The link of the first in line; 0 where the line is empty.
 fn first_link<M: Memory>(memory: &M, cards: &[Card; 8]) -> u16
-    ensures { result ≡ first_link (meaning memory.now) cards.now cards.now }
+    ensures { result ≡ first_link (M.meaning memory.now) cards.now cards.now }
 {
     for card in cards {
         if leads(memory, cards, card.stage) {
@@ -102,9 +102,9 @@ impl<M: Memory> Lock<M> {
     // Writes the nodes in line, in order, into the place, the unused numbers 0, and gives their count.
     pub fn line(&self, place: &mut [u16; 8]) -> usize
         ensures nodes { place.new
-            ≡ placed (nodes_in_line (meaning self.now.memory) self.now.table.records) }
+            ≡ placed (nodes_in_line (M.meaning self.now.memory) self.now.table.records) }
         ensures count { result
-            ≡ length (nodes_in_line (meaning self.now.memory) self.now.table.records) }
+            ≡ length (nodes_in_line (M.meaning self.now.memory) self.now.table.records) }
     {
         *place = [0; 8];
         let mut link = first_link(&self.memory, &self.table.records);

@@ -53,7 +53,7 @@ pub(crate) fn first_stage(node: u8, mode: Mode) -> Stage
 
 // One store.
 fn store<M: Memory>(memory: &mut M, card: usize, cell: usize, value: u16) -> Result<(), LockFault>
-    ensures { (result, meaning memory.new) ≡ stored (meaning memory.old) card cell value }
+    ensures { (result, M.meaning memory.new) ≡ stored (M.meaning memory.old) card cell value }
 {
     Ok(memory.store(card, cell, value)?)
 }
@@ -66,8 +66,8 @@ pub(crate) fn prepare<M: Memory>(
     node: u8,
     mode: Mode,
 ) -> Result<(), LockFault>
-    ensures { (result, meaning memory.new)
-        ≡ stores card (entry_stores node mode) (meaning memory.old) }
+    ensures { (result, M.meaning memory.new)
+        ≡ stores card (entry_stores node mode) (M.meaning memory.old) }
 {
     let me = link_of(node);
     let state = match mode {
@@ -90,8 +90,8 @@ pub(crate) fn fill<M: Memory>(
     node: u8,
     values: NodeValues,
 ) -> Result<(), LockFault>
-    ensures { (result, meaning memory.new)
-        ≡ stores card (reuse_stores node values) (meaning memory.old) }
+    ensures { (result, M.meaning memory.new)
+        ≡ stores card (reuse_stores node values) (M.meaning memory.old) }
 {
     let me = link_of(node);
     store(memory, card, cell_of(me, Field::Next), values.next)?;

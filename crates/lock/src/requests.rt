@@ -14,8 +14,8 @@ use stages::stage::{Addition, Mode, ReaderExit, Stage, WriterExit};
 impl<M: Memory> Lock<M> {
     // An idle card takes a free node and stands before the line, at the first row of its entry.
     pub fn enter(&mut self, card: usize, mode: Mode, node: u16) -> Result<Answer, LockFault>
-        ensures moves { (result, lock_state meaning self.new)
-            ≡ entered (size_of self.old.sizes) (lock_state meaning self.old) card mode node }
+        ensures moves { (result, lock_state M.meaning self.new)
+            ≡ entered (size_of self.old.sizes) (lock_state M.meaning self.old) card mode node }
         ensures same { self.new.sizes ≡ self.old.sizes }
     {
         if !self.sizes.has_card(card) {
@@ -37,8 +37,8 @@ impl<M: Memory> Lock<M> {
 
     // A card inside stands at the first row of its exit.
     pub fn leave(&mut self, card: usize) -> Result<Answer, LockFault>
-        ensures moves { (result, lock_state meaning self.new)
-            ≡ left (size_of self.old.sizes) (lock_state meaning self.old) card }
+        ensures moves { (result, lock_state M.meaning self.new)
+            ≡ left (size_of self.old.sizes) (lock_state M.meaning self.old) card }
         ensures same { self.new.sizes ≡ self.old.sizes }
     {
         if !self.sizes.has_card(card) {
@@ -62,8 +62,8 @@ impl<M: Memory> Lock<M> {
 
     // A card inside to write stands at the first row of an add.
     pub fn add(&mut self, card: usize, counter: u16, amount: u16) -> Result<Answer, LockFault>
-        ensures moves { (result, lock_state meaning self.new)
-            ≡ added (size_of self.old.sizes) (lock_state meaning self.old)
+        ensures moves { (result, lock_state M.meaning self.new)
+            ≡ added (size_of self.old.sizes) (lock_state M.meaning self.old)
             card counter amount }
         ensures same { self.new.sizes ≡ self.old.sizes }
     {
@@ -87,8 +87,8 @@ impl<M: Memory> Lock<M> {
 
     // One load of a counter, by a card inside.
     pub fn show(&mut self, card: usize, counter: u16) -> Result<Answer, LockFault>
-        ensures moves { (result, lock_state meaning self.new)
-            ≡ shown (size_of self.old.sizes) (lock_state meaning self.old) card counter }
+        ensures moves { (result, lock_state M.meaning self.new)
+            ≡ shown (size_of self.old.sizes) (lock_state M.meaning self.old) card counter }
         ensures same { self.new.sizes ≡ self.old.sizes }
     {
         if !self.sizes.has_card(card) {

@@ -12,7 +12,7 @@ use stages::stage::{Card, Stage};
 impl<M: Memory> Lock<M> {
     // Clears the memory and gives every card an idle record.
     pub fn set_up(memory: M, sizes: Sizes) -> Lock<M>
-        ensures fresh { lock_state meaning result ≡ new_lock }
+        ensures fresh { lock_state M.meaning result ≡ new_lock }
         ensures same { result.sizes ≡ sizes }
     {
         let mut memory = memory;

@@ -1,5 +1,7 @@
 // Reads a schedule from standard input, runs it on a board and prints what every event answered.
 // A word on the command line names the memory under the board: `deferred`, as without a word, or `inplace`.
+#![tactic(auto)]
+
 use anyhow::anyhow;
 use deferred::deferred::Deferred;
 use inplace::inplace::InPlace;

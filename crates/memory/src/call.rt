@@ -41,9 +41,10 @@ pub enum MemoryCall {
 }
 
 // Makes one call; one that answers no number answers 0.
+#[tactic(auto, unfolding(crate::specs::Calls::performed))]
 pub fn perform<M: Memory>(memory: &mut M, call: MemoryCall) -> Result<u16, MemoryFault>
-    ensures answer { result ≡ (performed (meaning memory.old) call).answer }
-    ensures after { meaning memory.new ≡ (performed (meaning memory.old) call).after }
+    ensures answer { result ≡ (performed (M.meaning memory.old) call).answer }
+    ensures after { M.meaning memory.new ≡ (performed (M.meaning memory.old) call).after }
 {
     match call {
         MemoryCall::Clear => {

@@ -12,8 +12,8 @@ use crate::memory::Memory;
 // overlap after them: what one has written, another has neither marked nor written. So what a transaction has read
 // still stands while it is open.
 pub fn replay<M: Memory>(memory: &mut M, calls: &[MemoryCall])
-    ensures after { meaning memory.new ≡ after_calls cleared calls.now }
-    ensures sound { Sound (meaning memory.new) }
+    ensures after { M.meaning memory.new ≡ after_calls cleared calls.now }
+    ensures sound { Sound (M.meaning memory.new) }
     ensures law { AlwaysSound }
     ensures lasting { ReadsLast }
     ensures examples { ExamplesHold }

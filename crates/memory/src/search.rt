@@ -30,7 +30,7 @@ impl Celled for Write {
 
 // The place of the first record of the cell: the one search, for records of every kind.
 pub fn find<T: Celled>(items: &[T], cell: usize) -> Option<usize>
-    ensures first { result ≡ seek place cell 0 items.now }
+    ensures first { result ≡ seek T.place cell 0 items.now }
     ensures within { IfSome result (λ i. i < length items.now) }
 {
     for (i, item) in items.iter().enumerate() {

@@ -1,4 +1,6 @@
 // The lines that a run prints, each with its bytes fixed.
+#![tactic(auto)]
+
 mod lines;
 mod words;
 

@@ -1,4 +1,6 @@
 // What a whole schedule prints: it is read, run on a board, and answered line by line.
+#![tactic(auto)]
+
 mod calls;
 mod faults;
 mod running;

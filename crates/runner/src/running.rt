@@ -29,11 +29,11 @@ fn number_of(index: u16) -> u16
 
 // Runs an event on a board.
 fn take_turn<M: Memory>(board: &mut Board<M>, event: Event) -> Result<Answer, DoorFault>
-    ensures moves { (result, board_state meaning board.new)
-        ≡ called (board_size board.old) (board_state meaning board.old) (call_of_event event) }
+    ensures moves { (result, board_state M.meaning board.new)
+        ≡ called (board_size board.old) (board_state M.meaning board.old) (call_of_event event) }
     ensures same { board_size board.new ≡ board_size board.old }
     ensures promise { Carries (board_size board.old) (call_of_event event)
-        (board_state meaning board.old) (board_state meaning board.new) result }
+        (board_state M.meaning board.old) (board_state M.meaning board.new) result }
 {
     board.call(call_of(event))
 }
@@ -46,7 +46,7 @@ fn play<M: Memory + Drop>(
     out: &mut String,
     text: &[u8],
 ) -> Result<Board<M>, RunFault>
-    ensures { Plays meaning (string_bytes out.old) text.now
+    ensures { Plays M.meaning (string_bytes out.old) text.now
         (string_bytes out.new) result }
 {
     let (sizes, rest) = take_sizes(text)?;
@@ -64,7 +64,7 @@ fn play<M: Memory + Drop>(
 
 // The line of the nodes that stand in line.
 fn queue<M: Memory>(heap: Global, board: &Board<M>) -> Result<String, AllocError>
-    ensures { IfOk result (λ s. Queues meaning board.now (string_bytes s)) }
+    ensures { IfOk result (λ s. Queues M.meaning board.now (string_bytes s)) }
 {
     let mut place = [0u16; 8];
     let count = board.line(&mut place);
@@ -76,7 +76,7 @@ fn last_line<M: Memory + Drop>(
     heap: Global,
     end: Result<Board<M>, RunFault>,
 ) -> Result<String, AllocError>
-    ensures { IfOk result (λ s. Ends meaning end (string_bytes s)) }
+    ensures { IfOk result (λ s. Ends M.meaning end (string_bytes s)) }
 {
     match end {
         Ok(board) => queue(heap, &board),

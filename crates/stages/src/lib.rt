@@ -1,4 +1,6 @@
 // The procedure of a card: its stages with their numbers, and the table of steps, one row a stage.
+#![tactic(auto)]
+
 pub mod addition;
 pub mod answer;
 mod calls;

@@ -1,5 +1,7 @@
 // Two cards count a car each on one cell: what each of them reads, and how the transactions keep the count right.
 // Then the same calls on a memory of each kind, side by side.
+#![tactic(auto)]
+
 use deferred::deferred::Deferred;
 
 mod calls;
