@@ -1,9 +1,8 @@
 use door::door::Door;
-use memory::memory::Memory;
 
 // A board on any memory. It adds no code to the door: its calls are the door's, and their contracts carry the promise
 // over every run.
 #[derive(Drop)]
-pub struct Board<M: Memory> {
+pub struct Board<M> {
     pub(crate) door: Door<M>,
 }
