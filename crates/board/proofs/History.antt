@@ -13,7 +13,8 @@ use Rattle.board.proofs.Ranges.{Within}
 use Rattle.board.specs.History.{cells_in, StandsAfter, Carries, CarriesAll, CarriedThroughout, nodes_of, LinesUp}
 use Rattle.board.proofs.Book.{board_after, whole, promised, never}
 use Rattle.board.specs.Answers.{Tells, Grants}
-use Rattle.board.proofs.Untouched.{untouched}
+use Rattle.board.specs.Recounts.{LeavesFree, Recounts, RecountedThroughout, RecountsAll}
+use Rattle.board.proofs.Untouched.{untouched, leaves_free}
 use Rattle.board.proofs.Asked.{all_told}
 use Rattle.board.proofs.Granted.{all_granted}
 use Rattle.board.proofs.Walks.{line_is_walked}
@@ -62,12 +63,30 @@ module _ (z : Size) (W : Within z) where
             (subst (λ (x : DoorState). Untouched z k (cells_in x) (cells_of X) B X) f
             (subst (λ (b : Book). Untouched z k (cells_of B) (cells_of b) B b) (sym E)
             (untouched z W B (whole z W cs).inv k)));
-        tells = replied s t r f (sym (ap (λ (p : Result Answer DoorFault × DoorState). p.1) e))
-            (sym (ap (λ (p : Result Answer DoorFault × DoorState). p.0) e));
-        grants = granted s r f (sym (ap (λ (p : Result Answer DoorFault × DoorState). p.0) e));
         never_8 = subst Never8
             (ap (λ (x : DoorState). (called z x k).0) f ∙ sym (ap (λ (p : Result Answer DoorFault × DoorState). p.0) e))
             (never z W cs k);
+      }
+
+  -- what a call says and leaves
+  pub recounts : (k : Call) (s t : DoorState) (r : Result Answer DoorFault) → (r, t) ≡ called z s k
+      → Recounts z k s t r
+  recounts k s t r e cs f =
+      let B = fed z cs in
+      let X = fed z (cs ++ k ∷ []) in
+      let E = fed_more z cs k in
+      let G : X.board ≡ t = ap (λ (b : Book). b.board) E ∙ board_after z B k
+      ∙ ap (λ (x : DoorState). (called z x k).1) f
+      ∙ sym (ap (λ (p : Result Answer DoorFault × DoorState). p.1) e) in
+      record {
+        spared =
+            subst (λ (y : DoorState). LeavesFree z k (cells_in s) (cells_in y) B X) G
+            (subst (λ (x : DoorState). LeavesFree z k (cells_in x) (cells_of X) B X) f
+            (subst (λ (b : Book). LeavesFree z k (cells_of B) (cells_of b) B b) (sym E)
+            (leaves_free z W B (whole z W cs).inv k)));
+        tells = replied s t r f (sym (ap (λ (p : Result Answer DoorFault × DoorState). p.1) e))
+            (sym (ap (λ (p : Result Answer DoorFault × DoorState). p.0) e));
+        grants = granted s r f (sym (ap (λ (p : Result Answer DoorFault × DoorState). p.0) e));
       }
     where
       replied : (s t : DoorState) (r : Result Answer DoorFault) → (fed z cs).board ≡ s → (called z s k).1 ≡ t
@@ -94,22 +113,34 @@ module _ (z : Size) (W : Within z) where
       ∙ ap (λ (x : DoorState). ran z x ks) f
 
   -- every state on the way of a list of calls, and every call of it
-  pub throughout : (cs ks : List Call) (s : DoorState) → Follows z cs s → CarriedThroughout z cs ks s
-  throughout cs ks s f = record {
+  pub throughout : (cs ks : List Call) → CarriedThroughout z cs ks
+  throughout cs ks = record {
+    stands = λ before rest _ s f. (stands_after (cs ++ before) s f).stands;
+    carried = λ before k rest _ s t r f e. carries k s t r e (cs ++ before) f;
+  }
+
+  -- the same of the states that a board in state s comes to, and what each call says and leaves
+  pub recounted_throughout : (cs ks : List Call) (s : DoorState) → Follows z cs s → RecountedThroughout z cs ks s
+  recounted_throughout cs ks s f = record {
     stands = λ before rest _. stands_after (cs ++ before) (ran z s before) (follows_on cs before s f);
     carried = λ before k rest _.
         carries k (ran z s before) _ _ refl (cs ++ before) (follows_on cs before s f);
+    recounted = λ before k rest _.
+        recounts k (ran z s before) _ _ refl (cs ++ before) (follows_on cs before s f);
   }
 
   -- from a new board on
-  pub throughout_new : (ks : List Call) → CarriedThroughout z [] ks new_door
+  pub recounted_new : (ks : List Call) → RecountedThroughout z [] ks new_door
   unfolding fed
-  throughout_new ks = throughout [] ks new_door refl
+  recounted_new ks = recounted_throughout [] ks new_door refl
 
   -- a list of calls
   pub carries_all : (ks : List Call) (s t : DoorState) → t ≡ ran z s ks → CarriesAll z ks s t
-  carries_all ks s t e cs f =
-      (stands_after (cs ++ ks) t (follows_on cs ks s f ∙ sym e), throughout cs ks s f)
+  carries_all ks s t e cs f = (stands_after (cs ++ ks) t (follows_on cs ks s f ∙ sym e), throughout cs ks)
+
+  -- what each of a list of calls says and leaves
+  pub recounts_all : (ks : List Call) (s : DoorState) → RecountsAll z ks s
+  recounts_all ks s cs f = recounted_throughout cs ks s f
 
   -- the line call
   pub lines_up : (s : DoorState) (place : List ℕ) (count : ℕ)

@@ -31,7 +31,8 @@ use Rattle.door.specs.declared.call.Call.{Call}
 use Rattle.door.specs.declared.call.Call.TheVariants as call
 use Rattle.door.specs.Door.{called, served}
 use Rattle.board.specs.Book.{Book, after}
-use Rattle.board.specs.Promise.{cells_of, Untouched}
+use Rattle.board.specs.Promise.{cells_of, NoReuse, Untouched}
+use Rattle.board.specs.Recounts.{Spares, LeavesFree}
 use Rattle.board.proofs.Ranges.{Within}
 use Rattle.board.proofs.Views.{view, link}
 use Rattle.board.proofs.Held.{in_tx}
@@ -255,12 +256,24 @@ reused_keeps z W b I n x c k v h =
     (λ q _. refl)
 
 -- no call but a reuse of the node changes a cell of a node that is free before and after it
-pub untouched : (z : Size) → Within z → (b : Book) → Inv z b → (k : Call)
-    → Untouched z k (cells_of b) (cells_of (after z b k)) b (after z b k)
-untouched z W b I (call.Request c t k a y) n lt h fr fr-after x =
+pub leaves_free : (z : Size) → Within z → (b : Book) → Inv z b → (k : Call)
+    → LeavesFree z k (cells_of b) (cells_of (after z b k)) b (after z b k)
+leaves_free z W b I (call.Request c t k a y) n lt h fr fr-after x =
     request_cases z b.board c t k a y (λ (u : LockState) (o : Option Request). Keeps z W b I n x u) (λ _. refl)
     (λ w lt e. served_keeps z W b I n x c w lt) (λ w lt e. served_keeps z W b I n x c w lt) fr-after
-untouched z W b I (call.Step c) n lt h fr fr-after x = step_keeps z W b I n x c lt fr
-untouched z W b I (call.Abort c) n lt h fr fr-after x =
+leaves_free z W b I (call.Step c) n lt h fr fr-after x = step_keeps z W b I n x c lt fr
+leaves_free z W b I (call.Abort c) n lt h fr fr-after x =
     ap (λ (l : List ℕ). get_or l (node_cell n x) 0) (abort_cells z b c)
-untouched z W b I (call.Reuse c k v) n lt h fr fr-after x = reused_keeps z W b I n x c k v h fr-after
+leaves_free z W b I (call.Reuse c k v) n lt h fr fr-after x = reused_keeps z W b I n x c k v h fr-after
+
+-- a call that is no reuse is none of any node
+spares : (k : Call) (n : ℕ) → NoReuse k → Spares k n
+spares (call.Request c t k x y) n h = tt
+spares (call.Step c) n h = tt
+spares (call.Abort c) n h = tt
+spares (call.Reuse c m v) n h = absurd h
+
+-- no request, step or abort changes a cell of a node that is free before and after it
+pub untouched : (z : Size) → Within z → (b : Book) → Inv z b → (k : Call)
+    → Untouched z k (cells_of b) (cells_of (after z b k)) b (after z b k)
+untouched z W b I k h n lt fr fr-after = leaves_free z W b I k n lt (spares k n h) fr fr-after

@@ -8,12 +8,11 @@ use Rattle.lock.specs.Lock.{Size}
 use Rattle.lock.specs.Lines.{placed}
 use Rattle.door.specs.declared.fault.DoorFault.{DoorFault}
 use Rattle.door.specs.declared.call.Call.{Call}
-use Rattle.door.specs.Door.{DoorState, called, ran}
+use Rattle.door.specs.Door.{DoorState, called}
 use Rattle.door.specs.Doors.{door_state, door_size}
 use Rattle.board.specs.declared.board.Board.{Board}
 use Rattle.board.specs.Book.{Place, fed, Follows}
 use Rattle.board.specs.Promise.{Stands, Untouched, Never8}
-use Rattle.board.specs.Answers.{Tells, Grants}
 
 -- a board's state
 abbrev pub board_state : {X : Type 0} → (X → Meaning) → Board X → DoorState
@@ -36,27 +35,27 @@ pub record StandsAfter (z : Size) (cs : List Call) (s : DoorState) : Type 0 wher
 pub record Carried (z : Size) (k : Call) (cs : List Call) (s t : DoorState) (r : Result Answer DoorFault) : Type 0 where
   pub after : StandsAfter z (cs ++ k ∷ []) t
   pub untouched : Untouched z k (cells_in s) (cells_in t) (fed z cs) (fed z (cs ++ k ∷ []))
-  pub tells : Tells z k s t (fed z cs) (fed z (cs ++ k ∷ [])) r
-  pub grants : Grants z k s (fed z cs) r
   pub never_8 : Never8 r
 
 -- the same for every history that the board may have followed
 abbrev pub Carries : Size → Call → DoorState → DoorState → Result Answer DoorFault → Type 0
 Carries z k s t r = (cs : List Call) → Follows z cs s → Carried z k cs s t r
 
--- The calls ks, refused ones included, were made in turn on a board in state s that had followed the calls cs. Of
--- every state that the board was in, before the first of them and after each, and of every one of them:
-pub record CarriedThroughout (z : Size) (cs ks : List Call) (s : DoorState) : Type 0 where
-  -- the board has followed the calls so far, and the promise stands in its memory
-  pub stands : (before rest : List Call) → ks ≡ before ++ rest → StandsAfter z (cs ++ before) (ran z s before)
-  -- the call keeps it so, and keeps the promises of a single call
-  pub carried : (before : List Call) (k : Call) (rest : List Call) → ks ≡ before ++ k ∷ rest
-      → Carried z k (cs ++ before) (ran z s before)
-      (called z (ran z s before) k).1 (called z (ran z s before) k).0
+-- The calls ks, refused ones included, were made in turn on a board that had followed the calls cs. Of every state s
+-- that
+-- the board was in before the first of them or after one of them, and of every one of them:
+pub record CarriedThroughout (z : Size) (cs ks : List Call) : Type 0 where
+  -- the promise stands in the board's memory
+  pub stands : (before rest : List Call) → ks ≡ before ++ rest → (s : DoorState) → Follows z (cs ++ before) s
+      → Stands z (cells_in s) (fed z (cs ++ before))
+  -- the call changes no cell of a node that is free before and after it, and is not refused by the memory
+  pub carried : (before : List Call) (k : Call) (rest : List Call) → ks ≡ before ++ k ∷ rest → (s t : DoorState)
+      → (r : Result Answer DoorFault) → Follows z (cs ++ before) s → (r, t) ≡ called z s k
+      → Carried z k (cs ++ before) s t r
 
 -- a list of calls took a board from state s to state t, for every history that the board may have followed
 abbrev pub CarriesAll : Size → List Call → DoorState → DoorState → Type 0
-CarriesAll z ks s t = (cs : List Call) → Follows z cs s → StandsAfter z (cs ++ ks) t × CarriedThroughout z cs ks s
+CarriesAll z ks s t = (cs : List Call) → Follows z cs s → StandsAfter z (cs ++ ks) t × CarriedThroughout z cs ks
 
 -- the nodes of the book's line
 abbrev pub nodes_of : List Place → List ℕ

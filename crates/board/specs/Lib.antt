@@ -3,4 +3,5 @@ pub mod Promise
 pub mod Answers
 pub mod Resends
 pub mod History
+pub mod Recounts
 pub mod Boards

@@ -188,20 +188,20 @@ pub record Stands (z : Size) (cells : List ℕ) (b : Book) : Type 0 where
   -- no second count: a card's finished adds are its accepted adds, but for one that is still under way
   pub adds : (c : ℕ) → sums_of c b.asked ≡ sums_of c b.finished ++ add_under_way c (stage b c)
 
--- a call that is no reuse of node n
-abbrev pub Spares : Call → ℕ → Type 0
-Spares (call.Request c t k x y) n = Unit {0}
-Spares (call.Step c) n = Unit {0}
-Spares (call.Abort c) n = Unit {0}
-Spares (call.Reuse c m v) n = m ≡ n → ⊥
+-- a call that is no reuse
+abbrev pub NoReuse : Call → Type 0
+NoReuse (call.Request c t k x y) = Unit {0}
+NoReuse (call.Step c) = Unit {0}
+NoReuse (call.Abort c) = Unit {0}
+NoReuse (call.Reuse c n v) = ⊥
 
 -- a node is free unless a card that is not idle entered with it
 abbrev pub Free : Book → ℕ → Type 0
 Free b n = free b.board.lock.cards n ≡ true
 
--- no call but a reuse of that very node changes a cell of a node that is free before and after it
+-- no request, step or abort changes a cell of a node that is free before and after it
 abbrev pub Untouched : Size → Call → List ℕ → List ℕ → Book → Book → Type 0
-Untouched z k old new b d = (n : ℕ) → n < z.nodes → Spares k n → Free b n → Free d n
+Untouched z k old new b d = NoReuse k → (n : ℕ) → n < z.nodes → Free b n → Free d n
     → (f : Field) → at new (node_cell n f) ≡ at old (node_cell n f)
 
 -- the refusal of the memory never comes up

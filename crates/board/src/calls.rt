@@ -5,6 +5,7 @@ ghost use Rattle.lock.specs.Lines.{nodes_in_line, placed};
 ghost use Rattle.door.specs.Door.{called, ran};
 ghost use Rattle.board.specs.Resends.{Again};
 ghost use Rattle.board.specs.History.{board_state, board_size, Carries, CarriesAll, LinesUp};
+ghost use Rattle.board.specs.Recounts.{Recounts, RecountsAll};
 
 use crate::board::Board;
 use door::call::Call;
@@ -23,6 +24,8 @@ impl<M: Memory> Board<M> {
             (board_state M.meaning self.old) (board_state M.meaning self.new) result }
         ensures again { Again (board_size self.old) call
             (board_state M.meaning self.new) result }
+        ensures tells { Recounts (board_size self.old) call
+            (board_state M.meaning self.old) (board_state M.meaning self.new) result }
     {
         self.door.call(call)
     }
@@ -34,6 +37,7 @@ impl<M: Memory> Board<M> {
         ensures same { board_size self.new ≡ board_size self.old }
         ensures promise { CarriesAll (board_size self.old) calls.now
             (board_state M.meaning self.old) (board_state M.meaning self.new) }
+        ensures tells { RecountsAll (board_size self.old) calls.now (board_state M.meaning self.old) }
     {
         self.door.run(calls)
     }

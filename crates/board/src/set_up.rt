@@ -3,6 +3,7 @@ ghost use Rattle.std.specs.Prelude.{◌≡◌, [], MatchResult};
 ghost use Rattle.door.specs.Door.{new_door};
 ghost use Rattle.door.specs.Doors.{set_up};
 ghost use Rattle.board.specs.History.{board_state, board_size, StandsAfter, CarriedThroughout};
+ghost use Rattle.board.specs.Recounts.{RecountedThroughout};
 ghost use Rattle.board.specs.Boards.{given_by, played};
 
 use crate::board::Board;
@@ -18,12 +19,13 @@ impl<M: Memory> Board<M> {
         ensures promise { MatchResult result
             (λ b. StandsAfter (board_size b) [] (board_state M.meaning b)) (λ _. Unit {0}) }
     {
-        let door = Door::set_up(memory, cards, nodes, counters)?;
-        Ok(Board { door })
+        match Door::set_up(memory, cards, nodes, counters) {
+            Ok(door) => Ok(Board { door }),
+            Err(unfit) => Err(unfit),
+        }
     }
 
-    // Sets a board up and makes the calls in turn, refused ones too. The promise stands before the first and after
-    // each.
+    // Sets a board up and makes the calls in turn, refused ones too. The promise stands before the first and after each.
     pub fn play(
         memory: M,
         cards: u16,
@@ -34,11 +36,17 @@ impl<M: Memory> Board<M> {
         ensures gives { given_by M.meaning result ≡ played memory cards nodes counters calls.now }
         ensures promise { MatchResult result
             (λ b. StandsAfter (board_size b) calls.now (board_state M.meaning b)
-            × CarriedThroughout (board_size b) [] calls.now new_door) (λ _. Unit {0}) }
+            × CarriedThroughout (board_size b) [] calls.now) (λ _. Unit {0}) }
+        ensures tells { MatchResult result
+            (λ b. RecountedThroughout (board_size b) [] calls.now new_door) (λ _. Unit {0}) }
     {
-        let mut board = Board::set_up(memory, cards, nodes, counters)?;
-        board.run(calls);
-        Ok(board)
+        match Board::set_up(memory, cards, nodes, counters) {
+            Ok(mut board) => {
+                board.run(calls);
+                Ok(board)
+            }
+            Err(unfit) => Err(unfit),
+        }
     }
 
     // The memory, with whatever stands in it.

@@ -1,6 +1,6 @@
 use Rattle.std.proofs.Common.{ap}
 use Rattle.lock.specs.Locks.{size_of}
-use Rattle.board.proofs.History.{carries}
+use Rattle.board.proofs.History.{carries, recounts}
 use Rattle.board.proofs.Resends.{again}
 use Rattle.board.proofs.Sizes.{within_of}
 use Rattle.board.proofs.board.Board.call.Goals as goal
@@ -14,4 +14,5 @@ returns g c =
       again =
           again _ (within_of c.args.self.now.door.lock.sizes).cards _ _ c.args.self.now.door.whole _ _
           c.call.ensures.moves;
+      tells = recounts _ (within_of c.args.self.now.door.lock.sizes) _ _ _ _ c.call.ensures.moves;
     }

@@ -1,14 +1,15 @@
-use Rattle.std.proofs.Common.{[], sym, refl, subst}
+use Rattle.std.proofs.Common.{[], sym, refl, ap, ◌∙◌, subst}
 use Rattle.lock.specs.Lock.{Size}
+use Rattle.board.specs.Boards.{given_by}
 use Rattle.board.specs.History.{StandsAfter, board_state}
-use Rattle.board.proofs.History.{throughout_new}
+use Rattle.board.proofs.History.{throughout, recounted_new}
 use Rattle.board.proofs.Sizes.{within_of, plays}
 use Rattle.board.proofs.board.Board.play.Goals as goal
 
-pub returns : goal.returns
-returns g c =
-    let made = c.in_ok-board.ensures.gives in
-    let began = c.in_ok-board.ensures.promise in
+pub returns-in-Ok : goal.returns-in-Ok
+returns-in-Ok g c =
+    let made = ap (given_by g.M.Memory.meaning) (sym c.in-Ok.is) ∙ c.set_up.ensures.gives in
+    let began = c.in-Ok.ensures.promise in
     record {
       gives =
           plays c.args.memory c.args.cards c.args.nodes c.args.counters _
@@ -18,6 +19,7 @@ returns g c =
         subst (λ (z : Size). StandsAfter z c.args.calls.now
             (board_state g.M.Memory.meaning c.run.new.self)) (sym c.run.ensures.same)
             (c.run.ensures.promise [] began.follows).0,
-        throughout_new _ (within_of c.run.new.self.door.lock.sizes) _,
+        throughout _ (within_of c.run.new.self.door.lock.sizes) [] _,
       );
+      tells = recounted_new _ (within_of c.run.new.self.door.lock.sizes) _;
     }
