@@ -1,14 +1,13 @@
 -- A schedule can be told from its text. Assumes nothing.
-use Rattle.std.proofs.Common.{◌≡◌, ℕ, ◌<◌, ◌≤◌, cond, eqb, List, [], ◌∷◌, ◌++◌, map, length, get_or, decimal, sym, refl, ap, ◌∙◌, subst, arith, length-append}
+use Rattle.std.proofs.Common.{◌≡◌, ℕ, ◌<◌, cond, eqb, List, [], ◌∷◌, map, length, get_or, sym, refl, ap, ◌∙◌, subst, arith, length-append}
 use Rattle.std.specs.List.{AllByRecursion as All}
 use Rattle.std.proofs.lemmas.Fmt.{decimal_injective}
 use Rattle.textline.specs.declared.events.Event.{Event}
 use Rattle.textline.specs.declared.events.Event.TheVariants.{Read, Write, Leave, Add, Show, Step, Abort, Reuse}
-use Rattle.textline.specs.declared.events.SizeLines.{SizeLines}
 use Rattle.textline.specs.Events.{letter, numbers_of, written}
 use Rattle.textline.specs.Lines.{NoEnd}
 use Rattle.textline.specs.Numbers.{Field, spelled, Small}
-use Rattle.schedule.specs.Schedules.{lines_of, text_of, Sound, OneRendering}
+use Rattle.schedule.specs.Schedules.{lines_of, text_of, OneRendering}
 use Rattle.textline.proofs.Ends.{one_cut}
 use Rattle.textline.proofs.Fields.{same_after, same_first, stops_spelled}
 use Rattle.schedule.proofs.Fronts.{no_ends}

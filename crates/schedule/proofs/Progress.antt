@@ -9,9 +9,9 @@ use Rattle.textline.specs.declared.events.Event.{Event}
 use Rattle.textline.specs.declared.events.Event.TheVariants.{Step}
 use Rattle.textline.specs.declared.events.SizeLines.{SizeLines}
 use Rattle.textline.specs.Events.{written, numbers_of}
-use Rattle.textline.specs.Lines.{NoEnd, NumberLine, EventLine}
+use Rattle.textline.specs.Lines.{NumberLine, EventLine}
 use Rattle.textline.specs.Numbers.{Small}
-use Rattle.schedule.specs.Schedules.{lines_of, front_of, text_of, Sound, Renders, RendersNone, Fits, StopsAt}
+use Rattle.schedule.specs.Schedules.{lines_of, front_of, text_of, Renders, RendersNone, Fits, StopsAt}
 use Rattle.schedule.specs.Sections.{SizeSection}
 use Rattle.textline.proofs.Ends.{no_end_decimal, no_end_written}
 use Rattle.schedule.proofs.Fronts.{Begun, begun_more, peel, Next, next_of, stops, same_number, no_ends}

@@ -2,10 +2,10 @@
 use Rattle.std.proofs.Common.{◌≡◌, ℕ, ◌<◌, ◌≤◌, List, [], ◌∷◌, ◌++◌, length, take, IsErrAnd, Ok, Err, decimal, Result, sym, refl, ◌∙◌, subst, arith, Bor}
 use Rattle.textline.specs.declared.events.SizeLines.{SizeLines}
 use Rattle.textline.specs.declared.faults.FormFault.{FormFault}
-use Rattle.textline.specs.declared.faults.FormFault.TheVariants.{TooLong, BadLine}
+use Rattle.textline.specs.declared.faults.FormFault.TheVariants.{BadLine}
 use Rattle.textline.specs.Lines.{NumberLine}
 use Rattle.textline.specs.Numbers.{Small}
-use Rattle.schedule.specs.Schedules.{lines_of, text_of, Sound, Fits, StopsAt}
+use Rattle.schedule.specs.Schedules.{lines_of, text_of, Fits, StopsAt}
 use Rattle.schedule.specs.Sections.{SizeSection, TakesSizes, TakesCount}
 use Rattle.textline.proofs.Ends.{no_end_decimal}
 use Rattle.schedule.proofs.Fronts.{Begun, begun_none, begun_more, stops, same_number}

@@ -1,5 +1,5 @@
 -- Lines of a schedule. Assumes nothing.
-use Rattle.std.specs.Prelude.{◌≡◌, ℕ, ◌<◌, List, [], ◌∷◌, ◌++◌, length, Some, None, decimal, Option, ◌≢◌, slice_index}
+use Rattle.std.specs.Prelude.{◌≡◌, ℕ, ◌<◌, List, ◌∷◌, ◌++◌, length, Some, None, decimal, Option, ◌≢◌, slice_index}
 use Rattle.std.specs.Borrow.{Bor}
 use Rattle.textline.specs.declared.events.Event.{Event}
 use Rattle.textline.specs.Events.{written, numbers_of}

@@ -1,4 +1,6 @@
 // The lines of a schedule: a number alone, or an event.
+#![tactic(auto)]
+
 mod events;
 mod faults;
 mod lines;

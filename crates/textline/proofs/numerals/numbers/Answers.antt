@@ -1,7 +1,6 @@
-use Rattle.std.proofs.Common.{◌≡◌, length, sym, ◌∙◌, subst, arith, length-set, rules, true-eqb, false-eqb}
+use Rattle.std.proofs.Common.{arith, length-set, true-eqb, false-eqb}
 use lib.ListN.{length-replicate}
-use Rattle.textline.specs.Numbers.{Spells}
-use Rattle.textline.proofs.Fields.{Got, got_none, got_more, got_all, got_extra, got_next}
+use Rattle.textline.proofs.Fields.{got_none, got_more, got_all, got_extra, got_next}
 use Rattle.textline.proofs.numerals.numbers.Goals as goal
 
 pub returns-in_err-n : goal.returns-in_err-n
