@@ -9,7 +9,7 @@ use memory::access::Access;
 
 // Puts old values back into their cells.
 pub(crate) fn put_back(cells: &mut [u16], saved: &[Saved])
-    ensures { cells.new ≡ landed cells.old (map back saved.entry.now) }
+    ensures { cells.new ≡ landed cells.old (map back saved.now) }
 {
     for kept in saved {
         let at = kept.cell as usize;

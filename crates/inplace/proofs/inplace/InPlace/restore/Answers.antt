@@ -5,15 +5,13 @@ use Rattle.inplace.proofs.Means.{both}
 use Rattle.inplace.proofs.Restores.{restored_apart, restored_cells, restored_txs}
 use Rattle.inplace.proofs.inplace.InPlace.restore.Goals as goal
 
-pub invariant_of-self : goal.invariant_of-self
-invariant_of-self c =
+pub invariant_of-self-clause-apart : goal.invariant_of-self-clause-apart
+invariant_of-self-clause-apart c =
     let e = c.args.self.now in
     let t = c.index-self-card in
     let card = c.args.card in
-    let h : card < length e.txs = search rules in (
-      search rules,
-      (restored_apart e.cells e.txs card t.result c.args.to h t.is c.requires.bare e.apart, tt),
-    )
+    let h : card < length e.txs = search rules in
+    restored_apart e.cells e.txs card t.result c.args.to h t.is c.requires.bare e.apart
 
 pub returns : goal.returns
 returns c =

@@ -4,21 +4,16 @@ use Rattle.inplace.specs.declared.log.Transaction.TheVariants.{Closed}
 use Rattle.inplace.proofs.Dooms.{served_written, served_apart, served_after}
 use Rattle.inplace.proofs.inplace.InPlace.serve.Goals as goal
 
-pub invariant_of-self : goal.invariant_of-self
-invariant_of-self c =
+pub invariant_of-self-clause-apart : goal.invariant_of-self-clause-apart
+invariant_of-self-clause-apart c =
     let a = c.args in
     let e = a.self.now in
     let d = c.doom in
     let n = e.eight in
     let h : a.card < length e.txs = omega (arith, c.requires.at) in
-    let l : length d.new.txs ≡ length e.txs = search rules in (
-      search rules,
-      (
-        served_apart a.how a.card a.cell e.cells d.new.cells e.txs d.new.txs a.own h l
-            d.ensures.apart d.ensures.own d.ensures.after c.requires.same,
-        tt,
-      ),
-    )
+    let l : length d.new.txs ≡ length e.txs = search rules in
+    served_apart a.how a.card a.cell e.cells d.new.cells e.txs d.new.txs a.own h l
+    d.ensures.apart d.ensures.own d.ensures.after c.requires.same
 
 pub returns : goal.returns
 returns c =
