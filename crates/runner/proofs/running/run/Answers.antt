@@ -25,7 +25,7 @@ returns-in_err-push_str g c =
 pub returns : goal.returns
 returns g c =
     let told = string_bytes c.play-end.new.out in
-    let last = string_bytes c.in_ok-last_line.field_0 in
+    let last = string_bytes c.in_ok-last_line.field-0 in
     record {
       prints =
           prints g.M.Memory.meaning c.args.text.now (string_bytes c.new-out.result) told _ last
