@@ -3,9 +3,9 @@ use Rattle.std.proofs.Common.{◌≡◌, ℕ, ◌≤◌, Bool, true, false, cond
 use Rattle.lock.specs.declared.fault.SizeFault.TheVariants.{OutOfRange}
 use Rattle.lock.specs.Lock.{Size, within, sized}
 use Rattle.board.proofs.Ranges.{Within}
-use Rattle.board.proofs.History.{throughout}
+use Rattle.board.proofs.History.{throughout, recounted_new}
 use Rattle.runner.specs.Calls.{calls_of}
-use Rattle.runner.specs.Prints.{PromiseStands}
+use Rattle.runner.specs.Prints.{PromiseStands, RecountsStand}
 
 -- both of two tests hold
 both : (a b : Bool) → cond a b false ≡ true → (a ≡ true) × (b ≡ true)
@@ -39,3 +39,7 @@ within_ranges c n k z e =
 -- before the first event and after each
 pub promise_stands : PromiseStands
 promise_stands s z es is = throughout z (within_ranges s.cards s.nodes s.counters z is) [] (calls_of es)
+
+-- and what each event's answer says and leaves
+pub recounts_stand : RecountsStand
+recounts_stand s z es is = recounted_new z (within_ranges s.cards s.nodes s.counters z is) (calls_of es)

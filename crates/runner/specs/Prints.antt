@@ -8,6 +8,7 @@ use Rattle.door.specs.declared.fault.DoorFault.{DoorFault}
 use Rattle.door.specs.Door.{new_door, answers}
 use Rattle.board.specs.Book.{fed}
 use Rattle.board.specs.History.{nodes_of, CarriedThroughout}
+use Rattle.board.specs.Recounts.{RecountedThroughout}
 use Rattle.textline.specs.declared.events.Event.{Event}
 use Rattle.textline.specs.declared.events.SizeLines.{SizeLines}
 use Rattle.textline.specs.declared.faults.FormFault.TheVariants.{TooLong, BadLine}
@@ -73,3 +74,8 @@ OnePrint = (bs x y : List ℕ) → Prints bs x → Prints bs y → x ≡ y
 -- the promise of the board stands before the first event and after each, on every board that size lines ask for
 abbrev pub PromiseStands : Type 0
 PromiseStands = (s : SizeLines) (z : Size) (es : List Event) → asks s ≡ Ok z → CarriedThroughout z [] (calls_of es)
+
+-- and each event's answer tells the truth, is refused only with cause, and leaves free nodes their cells
+abbrev pub RecountsStand : Type 0
+RecountsStand = (s : SizeLines) (z : Size) (es : List Event) → asks s ≡ Ok z
+    → RecountedThroughout z [] (calls_of es) new_door

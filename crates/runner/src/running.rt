@@ -3,7 +3,7 @@ ghost use Rattle.std.specs.Prelude.{◌≡◌, ◌+◌, ◌<◌, IfOk, string_by
 ghost use Rattle.door.specs.Door.{called};
 ghost use Rattle.board.specs.History.{board_state, board_size, Carries};
 ghost use Rattle.runner.specs.Calls.{call_of_event};
-ghost use Rattle.runner.specs.Prints.{Prints, OnePrint, PromiseStands};
+ghost use Rattle.runner.specs.Prints.{Prints, OnePrint, PromiseStands, RecountsStand};
 ghost use Rattle.runner.specs.Plays.{Plays, Ends, Queues};
 
 use crate::calls::call_of;
@@ -91,6 +91,7 @@ pub fn run<M: Memory + Drop>(heap: Global, memory: M, text: &[u8]) -> Result<Str
     ensures prints { IfOk result (λ s. Prints text.now (string_bytes s)) }
     ensures one { OnePrint }
     ensures promise { PromiseStands }
+    ensures tells { RecountsStand }
 {
     let mut out = String::new(heap);
     let end = play(heap, memory, &mut out, text);

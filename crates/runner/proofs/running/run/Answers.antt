@@ -1,7 +1,7 @@
 use Rattle.std.proofs.Common.{◌++◌, string_bytes, ap, ◌∙◌}
 use Rattle.runner.proofs.Once.{one_print}
 use Rattle.runner.proofs.Playing.{prints, prints_none}
-use Rattle.runner.proofs.Promised.{promise_stands}
+use Rattle.runner.proofs.Promised.{promise_stands, recounts_stand}
 use Rattle.runner.proofs.running.run.Goals as goal
 
 pub returns-in_err-last_line : goal.returns-in_err-last_line
@@ -10,6 +10,7 @@ returns-in_err-last_line g c =
       prints = prints_none string_bytes c.args.text.now c.from_residual.result c.from_residual.ensures.0;
       one = one_print;
       promise = promise_stands;
+      tells = recounts_stand;
     }
 
 pub returns-in_err-push_str : goal.returns-in_err-push_str
@@ -20,6 +21,7 @@ returns-in_err-push_str g c =
           c.from_residual-in_err-push_str.ensures.0;
       one = one_print;
       promise = promise_stands;
+      tells = recounts_stand;
     }
 
 pub returns : goal.returns
@@ -34,4 +36,5 @@ returns g c =
           (c.in_ok-push_str.ensures.bytes ∙ ap (λ l. told ++ l) c.as_str.ensures.value);
       one = one_print;
       promise = promise_stands;
+      tells = recounts_stand;
     }
