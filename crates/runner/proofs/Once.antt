@@ -1,6 +1,6 @@
 -- What is printed for a text is one. Assumes nothing.
 use Rattle.std.proofs.Common.{◌≡◌, ℕ, zero, suc, ◌+◌, ◌<◌, ◌≤◌, List, [], ◌∷◌, ◌++◌, map, length, take, drop, Ok, Err, decimal, Result, sym, refl, ap, ◌∙◌, subst, append_assoc, arith}
-use Rattle.std.specs.List.{AllByRecursion as All}
+use Rattle.std.specs.List.{AllByRecursion}
 use Rattle.std.proofs.ByRecursion.{All-map, All-weaker}
 use Rattle.std.proofs.lemmas.List.{take-take, take_all, length-map}
 use Rattle.lock.specs.declared.fault.SizeFault.{SizeFault}
@@ -74,7 +74,7 @@ sized_past bs after s line section stop le =
     le
 
 -- events can be told from their lines
-same_events : (es fs : List Event) → All (λ e. Small (numbers_of e)) es → All (λ e. Small (numbers_of e)) fs
+same_events : (es fs : List Event) → AllByRecursion (λ e. Small (numbers_of e)) es → AllByRecursion (λ e. Small (numbers_of e)) fs
     → map written es ≡ map written fs → es ≡ fs
 same_events [] [] p q e = refl
 same_events [] (f ∷ fs) p q e =
@@ -91,7 +91,7 @@ same_events (a ∷ es) (f ∷ fs) p q e =
 module _ (bs head : List ℕ) (s : SizeLines) (section : SizeSection bs s head) where
   -- no line that is reached has a line end within it
   no_ends : (count : ℕ) (done : List Event) (rest : List ℕ) → Reaches bs s count done rest
-      → All NoEnd (front_of s count done)
+      → AllByRecursion NoEnd (front_of s count done)
   no_ends count done rest r =
       let few = r.few in (
         no_end_decimal 3 (omega arith),

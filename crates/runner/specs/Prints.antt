@@ -1,6 +1,6 @@
 -- What is printed for a text. Assumes nothing.
 use Rattle.std.specs.Prelude.{◌≡◌, ℕ, ◌+◌, ◌<◌, ◌≤◌, List, [], ◌∷◌, ◌++◌, length, Ok, Err, Result}
-use Rattle.std.specs.List.{AllByRecursion as All}
+use Rattle.std.specs.List.{AllByRecursion}
 use Rattle.stages.specs.declared.answer.Answer.{Answer}
 use Rattle.lock.specs.declared.fault.SizeFault.{SizeFault}
 use Rattle.lock.specs.Lock.{Size, sized}
@@ -40,7 +40,7 @@ asks s = sized s.cards s.nodes s.counters
 pub record Reaches (bs : List ℕ) (s : SizeLines) (count : ℕ) (done : List Event) (rest : List ℕ) : Type 0 where
   pub few : count ≤ 2000
   pub within : length done ≤ count
-  pub small : All (λ e. Small (numbers_of e)) done
+  pub small : AllByRecursion (λ e. Small (numbers_of e)) done
   pub whole : bs ≡ text_of (front_of s count done) ++ rest
 
 -- what is printed for bs, whose size lines are s, from the events on; z are the sizes of the board
