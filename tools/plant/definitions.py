@@ -32,6 +32,8 @@ def without_functions(text):
     """The lines of a source file without its functions and impl blocks, which end at the left margin."""
     kept, inside = [], False
     for line in text.split("\n"):
+        if not inside and line.startswith("#[tactic("):
+            continue
         if not inside and FUNCTION.match(line):
             inside = not line.endswith("}")
         elif inside:
@@ -51,7 +53,7 @@ def with_used_imports(text, types):
         if code and not code[1].endswith("PartialEq") and not (code[1] in types and re.search(rf"\b{code[1]}\b", body)):
             continue
         if ghost:
-            names = [name for name in ghost[2].split(", ") if name.strip("_") in body]
+            names = [name for name in ghost[2].split(", ") if name.strip("◌") in body]
             line = f"ghost use {ghost[1]}.{{{', '.join(names)}}};"
             if not names:
                 continue
@@ -72,7 +74,7 @@ def copy_crate(source, goal):
     lib = goal / "src" / "lib.rt"
     modules = [line for line in lib.read_text().split("\n") if line.startswith(("mod ", "pub mod "))]
     kept = [line for line in modules if (goal / "src" / f"{line.split()[-1][:-1]}.rt").exists()]
-    lib.write_text("\n".join(kept) + "\n")
+    lib.write_text("#![tactic(auto)]\n\n" + "\n".join(kept) + "\n")
 
 
 def make_copy(repo, goal, last):
@@ -90,7 +92,7 @@ def make_copy(repo, goal, last):
     for path in sources:
         path.write_text(with_used_imports(path.read_text(), types))
     (goal / "crates.txt").write_text("".join(f"{name}: {' '.join(crates[name])}\n" for name in names))
-    (goal / ".gitignore").write_text("target\nfaults.txt\n")
+    (goal / ".gitignore").write_text("out\ntarget\nfaults.txt\n")
     subprocess.run(["git", "init", "--quiet", str(goal)], check=True)
 
 

@@ -26,6 +26,7 @@ one of
     refused      the prover says no; the crate and the place of the first error are printed. A first error in a proof
                  file is marked: it may only mean that the proof no longer fits the text, so read the log
     ran wrong    everything is proved, and a test or a program's stored output tells the fault: a contract is too weak
+                 (only where --command runs them, as 'rt verdict' runs a crate's tests)
     no end       the check took longer than --seconds: nothing is known
     not built    the compiler says no before the prover is asked, or a definition that was changed is none any more: the
                  fault shows nothing, write another
@@ -227,8 +228,9 @@ def copy_sources(repo, copy):
     """Copies what git has under version control or would add, and takes away what is no longer there."""
     command = ["git", "-C", str(repo), "ls-files", "-z", "--cached", "--others", "--exclude-standard"]
     listed = subprocess.run(command, capture_output=True, check=True).stdout.decode().split("\0")
-    if (copy / "crates").is_dir():
-        shutil.rmtree(copy / "crates")
+    for old in (copy / "crates").rglob("*"):
+        if old.is_file() and "out" not in old.relative_to(copy).parts:
+            old.unlink()
     for name in filter(None, listed):
         source, goal = repo / name, copy / name
         if source.is_file():
@@ -237,35 +239,12 @@ def copy_sources(repo, copy):
 
 
 def make_copy(repo, copy, fresh):
-    """A copy of the sources, with the repository's target/ to save time, unless the copy has one or fresh is wanted."""
+    """A copy of the sources, with what earlier checks left in it, unless fresh is wanted."""
     copy.mkdir(parents=True, exist_ok=True)
-    copy_sources(repo, copy)
     if fresh:
-        shutil.rmtree(copy / "target", ignore_errors=True)
-    elif not (copy / "target").is_dir() and (repo / "target").is_dir():
-        shutil.copytree(repo / "target", copy / "target", symlinks=True)
-
-
-def replace_path(source, goal):
-    """Makes goal what source is, a file, a folder or nothing."""
-    if goal.is_dir():
-        shutil.rmtree(goal)
-    elif goal.exists():
-        goal.unlink()
-    goal.parent.mkdir(parents=True, exist_ok=True)
-    if source.is_dir():
-        shutil.copytree(source, goal, symlinks=True)
-    elif source.exists():
-        shutil.copy2(source, goal)
-
-
-def carry_over(source, goal, crates):
-    """Makes what the checks of these crates have left in one target/ what they left in another."""
-    for crate in crates:
-        parts = [f"inc/{crate}", f"inc/{crate}.tests", f"rlib/{crate}.rlib", f"bin/{crate}", f"obj/{crate}.o"]
-        parts += [f"stamp/{crate}", f"stamp/{crate}.tests"]
-        for part in parts:
-            replace_path(source / part, goal / part)
+        for out in copy.glob("crates/*/out"):
+            shutil.rmtree(out)
+    copy_sources(repo, copy)
 
 
 # One check
@@ -278,7 +257,7 @@ def check(copy, command, crate, seconds):
         # A session of its own, so that what the check started can be ended with it.
         process = subprocess.Popen(
             words,
-            cwd=copy,
+            cwd=copy / "crates" / crate,
             env=dict(os.environ, RT_CUT="0"),
             stdout=subprocess.PIPE,
             stderr=subprocess.STDOUT,
@@ -359,7 +338,6 @@ def check_unedited(copy, options, crates, faults):
         run = check(copy, options.command, crate, None)
         if run.status != 0:
             raise Unusable(f"{crate} is not proved without any fault: {run.where} {run.error}")
-    return wanted
 
 
 # The verdicts
@@ -406,8 +384,8 @@ def parse_options(words):
     parser.add_argument(
         "--above", nargs="?", const="", metavar="LAST", help="check the crates above too, while the fault survives"
     )
-    parser.add_argument("--fresh", action="store_true", help="start without a copy of target/")
-    parser.add_argument("--command", default="rt check {crate}", help="the check; {crate} is the crate's name")
+    parser.add_argument("--fresh", action="store_true", help="start without what earlier checks left in the copy")
+    parser.add_argument("--command", default="rt check", help="the check, in the crate's folder; {crate} is its name")
     parser.add_argument("--seconds", type=float, default=1800, help="longest time for one check")
     parser.add_argument("--logs", type=Path, default=Path("target/plant"), help="where each check's words are kept")
     parser.add_argument("--record", type=Path, help="keep the verdicts here, and try no fault that has one")
@@ -432,19 +410,14 @@ def see_plantable(repo, faults):
 def try_all(copy, options, faults, verdicts):
     """Judges the faults in turn, in a copy that is proved without any."""
     crates = read_crates(copy)
-    checked = check_unedited(copy, options, crates, faults)
-    with tempfile.TemporaryDirectory(prefix="plant-clean-") as folder:
-        # What the checks left without any fault is put back after each, so that the next is compared with it.
-        clean = Path(folder)
-        carry_over(copy / "target", clean, checked)
-        for number, fault in enumerate(faults, 1):
-            verdict = judge(copy, options, crates, fault)
-            carry_over(clean, copy / "target", verdict.passed + [verdict.crate] if verdict.crate else checked)
-            verdicts[fault.label] = verdict
-            print(f"{number}/{len(faults)} {verdict.line()}", flush=True)
-            if options.record:
-                with options.record.open("a") as record:
-                    record.write(json.dumps(asdict(verdict)) + "\n")
+    check_unedited(copy, options, crates, faults)
+    for number, fault in enumerate(faults, 1):
+        verdict = judge(copy, options, crates, fault)
+        verdicts[fault.label] = verdict
+        print(f"{number}/{len(faults)} {verdict.line()}", flush=True)
+        if options.record:
+            with options.record.open("a") as record:
+                record.write(json.dumps(asdict(verdict)) + "\n")
 
 
 def plant(options):
