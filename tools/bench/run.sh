@@ -4,15 +4,15 @@
 # Run it on a quiet machine: the instructions do not depend on the load, the times do.
 set -eu
 cd "$(dirname "$0")/../.."
-kit=$(dirname "$(dirname "$(rt doc)")")
+kit=$(dirname "$(rt doc)")
 out=$(mktemp -d)
 trap 'rm -rf "$out"' EXIT
 
 date -u
 uptime
 rt version
-rt staticlib benchboard >"$out/staticlib.log" 2>&1 || { cat "$out/staticlib.log"; exit 1; }
-RUSTFLAGS="-L $PWD/target/staticlib -L $kit/lib" \
+(cd crates/benchboard && rt lib) >"$out/staticlib.log" 2>&1 || { cat "$out/staticlib.log"; exit 1; }
+RUSTFLAGS="-L $PWD/crates/benchboard/out -L $kit/c" \
     cargo build --release --offline --quiet --manifest-path tools/bench/Cargo.toml
 bench=tools/bench/target/release/bench
 
@@ -20,5 +20,5 @@ bench=tools/bench/target/release/bench
 valgrind --tool=callgrind --combine-dumps=yes --callgrind-out-file="$out/counts" "$bench" count >/dev/null 2>&1
 "$bench" report "$out/counts"
 
-rt check formcheck >"$out/formcheck.log" 2>&1 || { tail -5 "$out/formcheck.log"; exit 1; }
-tools/bench/reading.sh target/bin/formcheck
+(cd crates/formcheck && rt check) >"$out/formcheck.log" 2>&1 || { tail -5 "$out/formcheck.log"; exit 1; }
+tools/bench/reading.sh crates/formcheck/out/formcheck

@@ -7,7 +7,7 @@ use independent::door::{Door, Refused};
 use independent::lock::{Answer, LockRefusal};
 
 #[link(name = "benchboard", kind = "static")]
-#[link(name = "rattle_c", kind = "static")]
+#[link(name = "libc_c", kind = "static")]
 extern "C" {
     fn benchboard_deferred(codes: *const u16, len: usize, times: u32) -> u64;
 }
