@@ -1,4 +1,6 @@
 // Reads a schedule from standard input and prints, line by line, what is understood of it and what is refused.
+#![tactic(auto)]
+
 use std::io::Read;
 
 fn main(rt: HostRuntime) -> anyhow::Result<()> {

@@ -1,12 +1,11 @@
 -- What is told of a text, piece by piece. Assumes nothing.
-use Rattle.std.proofs.Common.{◌≡◌, ℕ, suc, ◌+◌, ◌<◌, ◌≤◌, List, [], ◌∷◌, ◌++◌, length, IsErrAnd, Ok, Err, codes, Result, sym, refl, ap, ◌∙◌, subst, append_assoc, append-nil, add-zero, arith}
+use Rattle.std.proofs.Common.{◌≡◌, ℕ, suc, ◌+◌, ◌<◌, ◌≤◌, List, [], ◌∷◌, ◌++◌, length, IsErrAnd, Ok, Err, Result, sym, refl, ap, ◌∙◌, subst, append_assoc, append-nil, add-zero, arith}
 use Rattle.std.proofs.lemmas.List.{length_push}
 use Rattle.textline.specs.declared.events.Event.{Event}
 use Rattle.textline.specs.declared.events.SizeLines.{SizeLines}
 use Rattle.textline.specs.declared.faults.FormFault.{FormFault}
 use Rattle.textline.specs.declared.faults.FormFault.TheVariants.{TooLong, BadLine}
 use Rattle.textline.specs.Lines.{NumberLine, EventLine}
-use Rattle.schedule.specs.Schedules.{Renders}
 use Rattle.schedule.specs.Sections.{SizeSection, TakesSizes}
 use Rattle.schedule.proofs.Progress.{Progress, progress_none, progress_more, progress_all, same_sizes}
 use Rattle.schedule.proofs.Progress.{count_stops, event_stops, event_none, end_stops, end_none}
@@ -15,7 +14,7 @@ use Rattle.formtext.specs.declared.faults.ReadFault.TheVariants.{Memory, Form}
 use Rattle.formreport.specs.Accounts.{Before, Tells, Verdict, Accounts}
 use Rattle.formreport.specs.Accounts.Accounts.{refused, accepted}
 use Rattle.formreport.specs.Accounts.Before.{long, unsized, uncounted, stopped}
-use Rattle.formwords.specs.Words.{sizes_line, count_line, event_line, event_lines, fault_line, whole_line}
+use Rattle.formwords.specs.Words.{sizes_line, count_line, event_line, event_lines}
 
 -- one event more at the end
 lines_push : (line : ℕ) (done : List Event) (e : Event)

@@ -2,7 +2,6 @@
 use Rattle.std.specs.Prelude.{◌≡◌, ℕ, ◌<◌, ◌≤◌, List, length, Ok, Err, vec_items, Result}
 use Rattle.textline.specs.declared.events.Event.{Event}
 use Rattle.textline.specs.declared.events.SizeLines.{SizeLines}
-use Rattle.textline.specs.declared.faults.FormFault.{FormFault}
 use Rattle.textline.specs.declared.faults.FormFault.TheVariants.{TooLong, BadLine}
 use Rattle.schedule.specs.Schedules.{Renders, RendersNone, StopsAt}
 use Rattle.formtext.specs.declared.faults.ReadFault.{ReadFault}

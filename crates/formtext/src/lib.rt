@@ -1,4 +1,6 @@
 // Whole schedules: rendered to text, and read back.
+#![tactic(auto)]
+
 mod displays;
 mod faults;
 mod reading;

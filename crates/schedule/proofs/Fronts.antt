@@ -1,6 +1,6 @@
 -- A text of which the first lines are known: what some schedule's text goes on with. Assumes nothing.
 use Rattle.std.proofs.Common.{◌≡◌, ℕ, ◌+◌, ◌<◌, ◌≤◌, List, [], ◌∷◌, ◌++◌, length, get_or, take, drop, decimal, sym, refl, ap, ◌∙◌, append_assoc, arith, length-take-le}
-use Rattle.std.specs.List.{AllByRecursion as All}
+use Rattle.std.specs.List.{AllByRecursion}
 use Rattle.std.proofs.lemmas.Fmt.{decimal_injective}
 use Rattle.std.proofs.ByRecursion.{All-map, All-weaker, All-take, All-push}
 use Rattle.std.proofs.lemmas.List.{take-take, drop-take, drop_more}
@@ -13,7 +13,7 @@ use Rattle.schedule.specs.Schedules.{lines_of, text_of, Sound, Fits, StopsAt}
 use Rattle.textline.proofs.Ends.{one_cut, no_end_decimal, no_end_written}
 
 -- no line of a schedule has a line end within it
-pub no_ends : (s : SizeLines) (es : List Event) → Sound s es → All NoEnd (lines_of s es)
+pub no_ends : (s : SizeLines) (es : List Event) → Sound s es → AllByRecursion NoEnd (lines_of s es)
 no_ends s es h =
     let few = h.few in
     let count : length es < 65536 = omega arith in (
@@ -35,7 +35,8 @@ no_ends s es h =
     )
 
 -- texts that begin with as many lines have these lines and what is behind them in common
-pub peel : (done ls : List (List ℕ)) (rest after : List ℕ) → All NoEnd done → All NoEnd ls → length done ≤ length ls
+pub peel : (done ls : List (List ℕ)) (rest after : List ℕ) → AllByRecursion NoEnd done → AllByRecursion NoEnd ls
+    → length done ≤ length ls
     → text_of done ++ rest ≡ text_of ls ++ after
     → (take (length done) ls ≡ done) × (rest ≡ text_of (drop (length done) ls) ++ after)
 peel [] ls rest after p q le e = (refl, e)
@@ -49,7 +50,7 @@ peel (d ∷ done) (l ∷ ls) rest after p q le e =
 -- bs is the lines `done` and then `rest`
 pub record Begun (bs : List ℕ) (done : List (List ℕ)) (rest : List ℕ) : Type 0 where
   pub whole : bs ≡ text_of done ++ rest
-  pub lines : All NoEnd done
+  pub lines : AllByRecursion NoEnd done
 
 -- no line is known yet
 pub begun_none : (bs : List ℕ) → Begun bs [] bs

@@ -1,6 +1,6 @@
 -- A schedule can be told from its text. Assumes nothing.
 use Rattle.std.proofs.Common.{◌≡◌, ℕ, ◌<◌, cond, eqb, List, [], ◌∷◌, map, length, get_or, sym, refl, ap, ◌∙◌, subst, arith, length-append}
-use Rattle.std.specs.List.{AllByRecursion as All}
+use Rattle.std.specs.List.{AllByRecursion}
 use Rattle.std.proofs.lemmas.Fmt.{decimal_injective}
 use Rattle.textline.specs.declared.events.Event.{Event}
 use Rattle.textline.specs.declared.events.Event.TheVariants.{Read, Write, Leave, Add, Show, Step, Abort, Reuse}
@@ -63,7 +63,8 @@ one_event a b p q e =
     sym (told_is a) ∙ (λ i. told (l i) (n i)) ∙ told_is b
 
 -- events can be told from their lines
-same_events : (es fs : List Event) → All (λ e. Small (numbers_of e)) es → All (λ e. Small (numbers_of e)) fs
+same_events : (es fs : List Event) → AllByRecursion (λ e. Small (numbers_of e)) es
+    → AllByRecursion (λ e. Small (numbers_of e)) fs
     → map written es ≡ map written fs → es ≡ fs
 same_events [] [] p q e = refl
 same_events [] (f ∷ fs) p q e =
@@ -78,7 +79,8 @@ same_events (a ∷ es) (f ∷ fs) p q e =
     (λ i. head i ∷ tail i)
 
 -- lines can be told from their text
-same_lines : (ls ms : List (List ℕ)) → All NoEnd ls → All NoEnd ms → text_of ls ≡ text_of ms → ls ≡ ms
+same_lines : (ls ms : List (List ℕ)) → AllByRecursion NoEnd ls → AllByRecursion NoEnd ms → text_of ls ≡ text_of ms
+    → ls ≡ ms
 same_lines [] [] p q e = refl
 same_lines [] (m ∷ ms) p q e =
     let z = ap length e in absurd (omega (arith, z, length-append m (10 ∷ text_of ms)))

@@ -1,7 +1,7 @@
 -- A schedule read up to some event: what is known, and what its next line can mean. Assumes nothing.
 use Rattle.std.proofs.Common.{◌≡◌, ℕ, zero, suc, ◌+◌, ◌-◌, ◌<◌, ◌≤◌, List, [], ◌∷◌, ◌++◌, map, length, get_or, take, drop, replicate, decimal, sym, refl, ap, ◌∙◌, subst, append_assoc, append-nil, arith, length-append}
 use lib.ListN.{length-replicate}
-use Rattle.std.specs.List.{AllByRecursion as All}
+use Rattle.std.specs.List.{AllByRecursion}
 use Rattle.std.proofs.lemmas.Fmt.{decimal_injective}
 use Rattle.std.proofs.ByRecursion.{All-append, All-push, All-get_or}
 use Rattle.std.proofs.lemmas.List.{take_at, map-append, length-map, drop_all, get_or-map, length_push}
@@ -28,7 +28,7 @@ pub record Progress (bs : List ℕ) (s : SizeLines) (count : ℕ) (done : List E
   pub few : count ≤ 2000
   pub counted : NumberLine head count body
   pub within : length done ≤ count
-  pub events : All (λ e. Small (numbers_of e)) done
+  pub events : AllByRecursion (λ e. Small (numbers_of e)) done
   pub begun : Begun bs (front_of s count done) rest
 
 -- the size section is four lines that are known
@@ -146,7 +146,7 @@ count_stops bs head s section none =
     none (length x.events) x.after x.sound.few (record { small = omega arith; whole = x.goes }))
 
 -- what holds of an event holds of its copies
-all_same : (P : Event → Type 0) (n : ℕ) (e : Event) → P e → All P (replicate n e)
+all_same : (P : Event → Type 0) (n : ℕ) (e : Event) → P e → AllByRecursion P (replicate n e)
 all_same P zero e h = tt
 all_same P (suc n) e h = (h, all_same P n e h)
 

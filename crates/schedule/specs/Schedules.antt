@@ -1,6 +1,6 @@
 -- A whole schedule as text: its rendering, and the first line where a text is the rendering of none. Assumes nothing.
 use Rattle.std.specs.Prelude.{◌≡◌, ℕ, ◌+◌, ◌≤◌, List, [], ◌∷◌, ◌++◌, map, length, take, decimal}
-use Rattle.std.specs.List.{AllByRecursion as All}
+use Rattle.std.specs.List.{AllByRecursion}
 use Rattle.textline.specs.declared.events.Event.{Event}
 use Rattle.textline.specs.declared.events.SizeLines.{SizeLines}
 use Rattle.textline.specs.Events.{written, numbers_of}
@@ -28,7 +28,7 @@ rendered s es = text_of (lines_of s es)
 pub record Sound (s : SizeLines) (es : List Event) : Type 0 where
   pub sizes : Small (s.cards ∷ s.nodes ∷ s.counters ∷ [])
   pub few : length es ≤ 2000
-  pub events : All (λ e. Small (numbers_of e)) es
+  pub events : AllByRecursion (λ e. Small (numbers_of e)) es
 
 -- this text is the rendering of these sizes and events
 pub record Renders (bs : List ℕ) (s : SizeLines) (es : List Event) : Type 0 where

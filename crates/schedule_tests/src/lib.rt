@@ -1,4 +1,6 @@
 // Texts that each show one rule of the form, with what the form checker prints for them.
+#![tactic(auto)]
+
 use std::alloc::{AllocError, Global};
 
 // Whether the form checker prints just `expected` for `text`.

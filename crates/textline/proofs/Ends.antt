@@ -1,7 +1,7 @@
 -- Where a line ends, and that a text is cut into lines in one way. Assumes nothing.
 use Rattle.std.proofs.Common.{◌≡◌, ℕ, suc, ◌+◌, ◌-◌, ◌<◌, List, [], ◌∷◌, ◌++◌, length, get_or, take, drop, decimal, sym, refl, ap, ◌∙◌, add-zero, arith, length-append, take-append-drop, length-take-le, get_or-take}
 use native.Mathlib.Nat.{sub-zero}
-use Rattle.std.specs.List.{AllByRecursion as All}
+use Rattle.std.specs.List.{AllByRecursion}
 use Rattle.std.proofs.lemmas.Fmt.{digits_decimal}
 use Rattle.std.proofs.ByRecursion.{All-get_or, All-append, All-from_get_or}
 use Rattle.std.proofs.lemmas.List.{take_rest, drop_more, get_or-append-add}
@@ -49,7 +49,7 @@ no_cut s line after none whole =
 
 -- bytes above 10
 abbrev Inked : List ℕ → Type 0
-Inked bs = All (λ b. 10 < b) bs
+Inked bs = AllByRecursion (λ b. 10 < b) bs
 
 -- no line ends in bytes above 10
 no_end_inked : (bs : List ℕ) → Inked bs → NoEnd bs

@@ -1,7 +1,7 @@
 -- How a number stands in a schedule. Assumes nothing.
 use Rattle.std.specs.Prelude.{◌≡◌, ℕ, ◌<◌, List, [], ◌∷◌, ◌++◌, length, Some, None, decimal, Option, slice_index, slice_index_or}
 use Rattle.std.specs.Borrow.{Bor}
-use Rattle.std.specs.List.{AllByRecursion as All}
+use Rattle.std.specs.List.{AllByRecursion}
 use Rattle.std.specs.Int.{IsInRange}
 
 -- the value that is there has the property P; where there is none, no value has it
@@ -42,7 +42,7 @@ spelled (n ∷ ns) = 32 ∷ (decimal n ++ spelled ns)
 
 -- every number is at most 65,535
 abbrev pub Small : List ℕ → Type 0
-Small ns = All (λ n. n < 65536) ns
+Small ns = AllByRecursion (λ n. n < 65536) ns
 
 -- bs is just `count` numbers, each after one space
 pub record Spells (count : ℕ) (bs : List ℕ) (ns : List ℕ) : Type 0 where

@@ -1,6 +1,6 @@
-use Rattle.std.proofs.Common.{◌≡◌, ◌+◌, ◌<◌, List, [], ◌∷◌, ◌++◌, length, vec_items, sym, refl, ap, ◌∙◌, subst, arith}
+use Rattle.std.proofs.Common.{◌≡◌, ◌+◌, ◌<◌, length, vec_items, refl, arith}
 use Rattle.std.proofs.lemmas.List.{length_push}
-use Rattle.schedule.proofs.Progress.{Progress, progress_none, progress_more, progress_all}
+use Rattle.schedule.proofs.Progress.{progress_none, progress_more, progress_all}
 use Rattle.schedule.proofs.Progress.{early_none, count_stops, event_stops, event_none, end_stops, end_none}
 use Rattle.formtext.proofs.Exits.{whole, fails_sizes, fails_at, fails_memory}
 use Rattle.formtext.proofs.reading.read.Goals as goal
