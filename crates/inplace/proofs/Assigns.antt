@@ -1,5 +1,7 @@
 -- A value put into a cell that no other card's open transaction has written.
-use Rattle.std.proofs.Common.{◌≡◌, ℕ, suc, ◌<◌, Bool, true, false, cond, eqb, ◌≢◌, List, [], ◌∷◌, ◌++◌, map, length, get_or, take, drop, set, sym, refl, ap, ◌∙◌, subst, append_assoc, get_or-set_other, get_or-set_same, set-set, eq-eqb, eqb-true}
+use Rattle.std.proofs.Common.{◌≡◌, ℕ, suc, ◌<◌, Bool, true, false, cond, eqb, ◌≢◌, List, [], ◌∷◌, ◌++◌, map, length}
+use Rattle.std.proofs.Common.{get_or, take, drop, set, sym, refl, ap, ◌∙◌, subst, append_assoc, get_or-set_other}
+use Rattle.std.proofs.Common.{get_or-set_same, set-set, eq-eqb, eqb-true}
 use lib.Seq.{set_split, map-set, set_comm, set-get_or}
 use borrow.Author.Tests.{eqb-false}
 use Rattle.std.proofs.lemmas.List.{map-append, take-map, drop-map, length-map}

@@ -1,5 +1,6 @@
 -- The loop that dooms the other cards' transactions and puts their old values back.
-use Rattle.std.proofs.Common.{◌≡◌, ℕ, ◌+◌, ◌<◌, ◌≤◌, true, false, ◌≢◌, ◌⊎◌, List, map, length, get_or, set, sym, refl, ap, ◌∙◌, subst, inl, inr, ⊎_elim, arith, set-set}
+use Rattle.std.proofs.Common.{◌≡◌, ℕ, ◌+◌, ◌<◌, ◌≤◌, true, false, ◌≢◌, ◌⊎◌, List, map, length, get_or, set, sym, refl}
+use Rattle.std.proofs.Common.{ap, ◌∙◌, subst, inl, inr, ⊎_elim, arith, set-set}
 use lib.Seq.{map-set}
 use Rattle.std.proofs.lemmas.List.{get_or-map, get_or-set_same, get_or-set_other, get_or_default, length-map}
 use Rattle.std.proofs.lemmas.Bool.{cond-true, cond-false}
@@ -44,7 +45,8 @@ module _ (a : Access) (card cell : ℕ) (cells : List ℕ) (txs : List Transacti
         ap (conflicts a cell) (get_or-map (tx_in cs) ts i t none h) ∙ conflicts_in cs a cell (get_or ts i t)
 
     -- a turn that dooms
-    pub done_doom : (t : Transaction) → i ≢ card → t ≡ get_or ts i t → conflicts a cell (tx_kept (get_or ts i t)) ≡ true
+    pub done_doom : (t : Transaction) → i ≢ card → t ≡ get_or ts i t
+        → conflicts a cell (tx_kept (get_or ts i t)) ≡ true
         → Done (i + 1) (landed cs (undo_of t)) (set ts i Doomed)
     done_doom t n is e = record {
       apart = restored_apart cs ts i t Doomed h is refl D.apart;
@@ -57,7 +59,8 @@ module _ (a : Access) (card cell : ℕ) (cells : List ℕ) (txs : List Transacti
     }
 
     -- a turn that leaves the place as it is
-    pub done_keep : (t : Transaction) → (i ≡ card) ⊎ ((i ≢ card) × (conflicts a cell (tx_kept (get_or ts i t)) ≡ false))
+    pub done_keep : (t : Transaction)
+        → (i ≡ card) ⊎ ((i ≢ card) × (conflicts a cell (tx_kept (get_or ts i t)) ≡ false))
         → Done (i + 1) cs ts
     done_keep t w = record {
       apart = D.apart;

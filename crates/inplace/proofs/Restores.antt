@@ -1,5 +1,7 @@
 -- Transactions whose old values are put back, or let go.
-use Rattle.std.proofs.Common.{◌≡◌, ℕ, zero, suc, ◌<◌, Bool, true, false, cond, eqb, List, [], ◌∷◌, ◌++◌, map, length, get_or, take, drop, set, Some, None, sym, refl, ap, ◌∙◌, append_assoc, set-set, ne_eqb, eqb-true}
+use Rattle.std.proofs.Common.{◌≡◌, ℕ, zero, suc, ◌<◌, Bool, true, false, cond, eqb, List, [], ◌∷◌, ◌++◌, map, length}
+use Rattle.std.proofs.Common.{get_or, take, drop, set, Some, None, sym, refl, ap, ◌∙◌, append_assoc, set-set, ne_eqb}
+use Rattle.std.proofs.Common.{eqb-true}
 use lib.Seq.{split_at, set_split, map-set, set-get_or}
 use Rattle.std.proofs.lemmas.List.{map-append}
 use Rattle.std.proofs.lemmas.Bool.{cond-false}

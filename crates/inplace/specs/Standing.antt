@@ -1,5 +1,6 @@
 -- What a memory that writes in place means: the old values, put back, are the standing ones.
-use Rattle.std.specs.Prelude.{◌≡◌, ℕ, ◌<◌, false, cond, List, map, Ok, Err, Result, nat_lt, slice_index, slice_index_or}
+use Rattle.std.specs.Prelude.{◌≡◌, ℕ, ◌<◌, false, cond, List, map, Ok, Err, Result, nat_lt, slice_index}
+use Rattle.std.specs.Prelude.{slice_index_or}
 use Rattle.memory.specs.declared.fault.MemoryFault.{MemoryFault}
 use Rattle.memory.specs.declared.fault.Refusal.TheVariants.{OutOfRange}
 use Rattle.memory.specs.declared.access.Access.{Access}
@@ -20,7 +21,8 @@ meaning_of e = meant e.cells e.txs
 -- what a cell itself holds
 abbrev pub holding : InPlace → ℕ → Result ℕ MemoryFault
 holding e cell =
-    cond (nat_lt cell 137) (Ok (slice_index e.cells cell)) (Err (record { refusal = OutOfRange; card = 0; cell = cell }))
+    cond (nat_lt cell 137) (Ok (slice_index e.cells cell))
+    (Err (record { refusal = OutOfRange; card = 0; cell = cell }))
 
 -- an accepted access by a card that keeps its own transaction
 abbrev pub dooming : Access → ℕ → ℕ → Meaning → Meaning

@@ -1,8 +1,8 @@
-use Rattle.std.proofs.Common.{◌≡◌, ℕ, ◌<◌, true, length, Ok, Err, sym, ap, ◌∙◌, rules}
+use Rattle.std.proofs.Common.{◌≡◌, ◌<◌, true, length, Err, sym, ap, ◌∙◌, rules}
 use lib.Seq.{map-set}
 use Rattle.std.proofs.lemmas.List.{get_or-map}
 use Rattle.memory.specs.declared.access.Access.TheVariants.{Writes}
-use Rattle.memory.specs.Meaning.{none, in_range, standing}
+use Rattle.memory.specs.Meaning.{none, in_range}
 use Rattle.deferred.specs.Deferral.{tx_in, meaning_of}
 use Rattle.deferred.specs.Own.{own_write}
 use Rattle.deferred.proofs.Own.{writing_by, struck_after_own}
