@@ -17,7 +17,8 @@ pub record Alike (r : Round) : Type 0 where
   pub answer : r.deferred.answer ≡ r.inplace.answer
   pub standing : r.deferred.standing ≡ r.inplace.standing
 
--- each call was made on both memories, in turn; every round is alike, and the memories have the same meaning at the end
+-- each call was made on both memories, in turn; every round is alike, and the memories have the same meaning
+-- at the end
 pub record Agrees (cs : List MemoryCall) (c : Comparison) : Type 0 where
   pub calls : map (λ (r : Round). r.call) (vec_items c.rounds) ≡ cs
   pub rounds : All Alike (vec_items c.rounds)

@@ -6,14 +6,14 @@ use deferred::deferred::Deferred;
 
 mod calls;
 mod compare;
-mod task;
 mod printing;
 mod reply;
+mod task;
 
 use crate::calls::calls;
 use crate::compare::compare;
-use crate::task::{count_both, tell};
 use crate::printing::print_comparison;
+use crate::task::{count_both, tell};
 
 fn run(rt: HostRuntime) -> anyhow::Result<()> {
     let mut memory = Deferred::new();

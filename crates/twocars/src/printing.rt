@@ -1,7 +1,7 @@
 // The comparison in words, call by call.
 use crate::compare::{Comparison, Seen};
-use crate::task::NORTH;
 use crate::reply::Reply;
+use crate::task::NORTH;
 use memory::call::MemoryCall;
 use std::io;
 
