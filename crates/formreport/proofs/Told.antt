@@ -41,8 +41,8 @@ abbrev told_of : SizeLines → List Event → List ℕ
 told_of s es = sizes_line s ++ (count_line (length es) ++ event_lines 6 es)
 
 -- a fault of the form is passed on
-pub fails : (start bs now told : List ℕ) (r : Result (Unit {0}) ReadFault) (f : FormFault) → IsErrAnd r (λ y. y ≡ Form f)
-    → now ≡ start ++ told → Before bs told f → Tells start bs now r
+pub fails : (start bs now told : List ℕ) (r : Result (Unit {0}) ReadFault) (f : FormFault)
+    → IsErrAnd r (λ y. y ≡ Form f) → now ≡ start ++ told → Before bs told f → Tells start bs now r
 fails start bs now told (Ok u) f e is b = absurd e
 fails start bs now told (Err g) f e is b = subst (λ h. Tells start bs now (Err h)) (sym e) (told, is, b)
 

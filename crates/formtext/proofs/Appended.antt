@@ -16,7 +16,8 @@ text_push (x ∷ ls) l =
 
 -- the line of one event more
 pub events_more : (start out next line : List ℕ) (es : List Event) (i : ℕ) (d : Event) → i < length es
-    → out ≡ start ++ text_of (map written (take i es)) → next ≡ out ++ line → line ≡ written (get_or es i d) ++ (10 ∷ [])
+    → out ≡ start ++ text_of (map written (take i es)) → next ≡ out ++ line
+    → line ≡ written (get_or es i d) ++ (10 ∷ [])
     → next ≡ start ++ text_of (map written (take (i + 1) es))
 events_more start out next line es i d lt inv pushed is =
     let lines = map written (take i es) in

@@ -16,13 +16,14 @@ pub record Run (bs : List ℕ) (k : ℕ) : Type 0 where
   pub stops : IsInRange 48 57 (get_or bs k 0) → ⊥
 
 -- the run of digits ends where the number does
-pub run_is : (bs ds after : List ℕ) (k : ℕ) → Run bs k → bs ≡ ds ++ after → AllDigits 10 ds → Stops after → k ≡ length ds
+pub run_is : (bs ds after : List ℕ) (k : ℕ) → Run bs k → bs ≡ ds ++ after → AllDigits 10 ds → Stops after
+    → k ≡ length ds
 run_is bs ds after k r e d st =
     let next : get_or bs (length ds) 0 ≡ get_or after 0 0 = ap (λ l. get_or l (length ds) 0) e
     ∙ ap (λ i. get_or (ds ++ after) i 0) (sym (add-zero (length ds))) ∙ get_or-append-add ds after 0 0 in
     ⊎_elim
-    (λ short. absurd (r.stops (subst (IsInRange 48 57) (sym (ap (λ l. get_or l k 0) e ∙ get_or_append_left ds after 0 k short))
-    (digit_at ds k d short))))
+    (λ short. absurd (r.stops (subst (IsInRange 48 57) (sym (ap (λ l. get_or l k 0) e
+    ∙ get_or_append_left ds after 0 k short)) (digit_at ds k d short))))
     (λ le. ⊎_elim (λ long. absurd (st (subst (IsInRange 48 57) next (r.digits (length ds) long)))) (λ ge. omega arith)
     (order (length ds) k))
     (order k (length ds))
@@ -50,7 +51,8 @@ same_after bs a b n m f g =
     let e : decimal n ++ a ≡ decimal m ++ b = cc in
     let dn = digits_decimal own n (omega arith) in
     let run : Run (decimal n ++ a) (length (decimal n)) = record {
-      digits = λ i lt. subst (IsInRange 48 57) (sym (get_or_append_left (decimal n) a 0 i lt)) (digit_at (decimal n) i dn lt);
+      digits = λ i lt. subst (IsInRange 48 57) (sym (get_or_append_left (decimal n) a 0 i lt))
+          (digit_at (decimal n) i dn lt);
       stops = subst (λ v. IsInRange 48 57 v → ⊥) (sym (ap (λ i. get_or (decimal n ++ a) i 0)
           (sym (add-zero (length (decimal n)))) ∙ get_or-append-add (decimal n) a 0 0)) f.stops;
     } in
