@@ -1,6 +1,6 @@
 -- What it is for two memories that get the same calls to agree.
 use Rattle.std.specs.Prelude.{◌≡◌, List, map, vec_items}
-use Rattle.std.specs.List.{AllByRecursion as All}
+use Rattle.std.specs.List.{AllByRecursion}
 use Rattle.memory.specs.declared.call.MemoryCall.{MemoryCall}
 use Rattle.deferred.specs.Deferral as deferred
 use Rattle.inplace.specs.Standing as inplace
@@ -21,5 +21,5 @@ pub record Alike (r : Round) : Type 0 where
 -- at the end
 pub record Agrees (cs : List MemoryCall) (c : Comparison) : Type 0 where
   pub calls : map (λ (r : Round). r.call) (vec_items c.rounds) ≡ cs
-  pub rounds : All Alike (vec_items c.rounds)
+  pub rounds : AllByRecursion Alike (vec_items c.rounds)
   pub meaning : SameMeaning c.pair

@@ -1,5 +1,5 @@
 use Rattle.std.proofs.Common.{◌≡◌, map, take, vec_items}
-use Rattle.std.specs.List.{AllByRecursion as All}
+use Rattle.std.specs.List.{AllByRecursion}
 use Rattle.twocars.specs.declared.compare.Round.{Round}
 use Rattle.twocars.specs.Agreement.{SameMeaning, Alike}
 use Rattle.twocars.proofs.compare.compare.Given as goal
@@ -8,4 +8,4 @@ use Rattle.twocars.proofs.compare.compare.Given as goal
 abbrev pub invariant-loop-call : goal.invariant-loop-call
 invariant-loop-call l =
     (map (λ (r : Round). r.call) (vec_items l.rounds) ≡ take l.call-index l.calls)
-    × All Alike (vec_items l.rounds) × SameMeaning l.pair
+    × AllByRecursion Alike (vec_items l.rounds) × SameMeaning l.pair
