@@ -1,5 +1,6 @@
 -- What the answer to a request, an abort or a reuse says is so, and so to every call.
-use Rattle.std.proofs.Common.{◌≡◌, ℕ, ◌<◌, Bool, true, false, cond, ltb, ◌⊎◌, [], ◌∷◌, length, Some, None, Ok, Option, Result, sym, refl, ap, ◌∙◌, subst, inl, inr, arith}
+use Rattle.std.proofs.Common.{◌≡◌, ℕ, ◌<◌, Bool, true, false, cond, ltb, ◌⊎◌, [], ◌∷◌, length, Some, None, Ok, Option}
+use Rattle.std.proofs.Common.{Result, sym, refl, ap, ◌∙◌, subst, inl, inr, arith}
 use Rattle.std.proofs.lemmas.Bool.{ltb-true, cond_both}
 use Rattle.std.proofs.lemmas.Bool.Decides.{nat_tests}
 use Rattle.memory.specs.declared.fault.MemoryFault.{MemoryFault}
@@ -64,7 +65,8 @@ entry_stored f k Write = (grind (arith, nat_tests), grind (arith, nat_tests), gr
 reuse_stored : (f : ℕ → ℕ) (k : ℕ) (v : NodeValues)
     → let g = stored (reuse_stores k v) f in (g (node_cell k Next) ≡ v.next) × (g (node_cell k Prev) ≡ v.prev)
     × (g (node_cell k State) ≡ v.state) × (g (node_cell k Spin) ≡ v.spin)
-reuse_stored f k v = (grind (arith, nat_tests), grind (arith, nat_tests), grind (arith, nat_tests), grind (arith, nat_tests))
+reuse_stored f k v =
+    (grind (arith, nat_tests), grind (arith, nat_tests), grind (arith, nat_tests), grind (arith, nat_tests))
 
 -- a cell of a node is one of its four
 one_of_four : (k x : ℕ) → frames.Within k x → ((f : Field) → x ≡ node_cell k f → ⊥) → ⊥

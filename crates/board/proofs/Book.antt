@@ -1,5 +1,6 @@
 -- Every book that is fed calls keeps the invariant and the two laws.
-use Rattle.std.proofs.Common.{◌≡◌, ℕ, zero, suc, ◌<◌, Bool, true, false, cond, eqb, ltb, List, [], ◌∷◌, get_or, set, replicate, Some, None, Ok, Err, Option, Result, sym, refl, ap, subst, arith}
+use Rattle.std.proofs.Common.{◌≡◌, ℕ, zero, suc, ◌<◌, Bool, true, false, cond, eqb, ltb, List, [], ◌∷◌, get_or, set}
+use Rattle.std.proofs.Common.{replicate, Some, None, Ok, Err, Option, Result, sym, refl, ap, subst, arith}
 use Rattle.std.proofs.lemmas.Bool.{ltb-true}
 use Rattle.memory.specs.Meaning.{Tx, none, standing, tx_of, cleared}
 use Rattle.stages.specs.declared.answer.Answer.{Answer}

@@ -1,9 +1,11 @@
 -- The line as it stands in the cells, over the cards as the line sees them.
-use Rattle.std.proofs.Common.{◌≡◌, ℕ, zero, suc, true, false, cond, eqb, ◌⊎◌, List, [], ◌∷◌, ◌++◌, sym, refl, ◌∙◌, subst, inl, inr, arith}
+use Rattle.std.proofs.Common.{◌≡◌, ℕ, zero, suc, true, false, cond, eqb, ◌⊎◌, List, [], ◌∷◌, ◌++◌, sym, refl, ◌∙◌}
+use Rattle.std.proofs.Common.{subst, inl, inr, arith}
 use mathlib.Core.Logic.{⊎_map}
 use Rattle.std.proofs.lemmas.Bool.{cases_eq, eq-eqb, ne_eqb}
 use Rattle.board.proofs.Cells.{next, prev, spin}
-use Rattle.board.proofs.Views.{View, away, comes_w, comes_r, waits_w, waits_r, holds_w, turn_r, active_r, sees_r, wakes_r, hands}
+use Rattle.board.proofs.Views.{View, away, comes_w, comes_r, waits_w, waits_r, holds_w, turn_r, active_r, sees_r}
+use Rattle.board.proofs.Views.{wakes_r, hands}
 use Rattle.board.proofs.Views.{node, link, joined, reader, active, target, waking, hand, granted, Cells}
 
 -- a list of cards without one of them

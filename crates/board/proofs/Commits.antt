@@ -1,10 +1,12 @@
 -- Each commit that the line sees, from what its transaction read and wrote.
-use Rattle.std.proofs.Common.{◌≡◌, ℕ, suc, Bool, true, false, eqb, ◌⊎◌, List, [], ◌∷◌, ◌++◌, sym, refl, ap, ◌∙◌, subst, inl, inr, ⊎_elim, arith}
+use Rattle.std.proofs.Common.{◌≡◌, ℕ, suc, Bool, true, false, eqb, ◌⊎◌, List, [], ◌∷◌, ◌++◌, sym, refl, ap, ◌∙◌}
+use Rattle.std.proofs.Common.{subst, inl, inr, ⊎_elim, arith}
 use Rattle.std.proofs.lemmas.Bool.{ne_eqb}
 use Rattle.board.proofs.Cells.{at, next, prev, state, spin}
 use Rattle.board.proofs.Chain.{without}
 use Rattle.board.proofs.Cells.{at_same, at_other, clash}
-use Rattle.board.proofs.Views.{link_node, View, away, comes_w, comes_r, waits_w, waits_r, holds_w, turn_r, active_r, sees_r}
+use Rattle.board.proofs.Views.{link_node, View, away, comes_w, comes_r, waits_w, waits_r, holds_w, turn_r, active_r}
+use Rattle.board.proofs.Views.{sees_r}
 use Rattle.board.proofs.Views.{wakes_r}
 use Rattle.board.proofs.Views.{hands, node, link, joined, reader, active, target, hand, granted, Cells}
 use Rattle.board.proofs.Chain.{Spot, who, Line}

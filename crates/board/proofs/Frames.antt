@@ -1,5 +1,6 @@
 -- What requests, aborts and stores into free nodes leave of the line.
-use Rattle.std.proofs.Common.{◌≡◌, ℕ, zero, suc, ◌+◌, ◌*◌, ◌<◌, ◌≤◌, Bool, true, false, cond, ◌⊎◌, List, [], ◌∷◌, get_or, sym, refl, ap, ◌∙◌, subst, inl, inr, arith}
+use Rattle.std.proofs.Common.{◌≡◌, ℕ, zero, suc, ◌+◌, ◌*◌, ◌<◌, ◌≤◌, Bool, true, false, cond, ◌⊎◌, List, [], ◌∷◌}
+use Rattle.std.proofs.Common.{get_or, sym, refl, ap, ◌∙◌, subst, inl, inr, arith}
 use mathlib.Core.Path.{fun_ext}
 use Rattle.std.proofs.lemmas.Bool.Decides.{nat_tests}
 use Rattle.stages.specs.declared.stage.Mode.{Mode}
@@ -98,7 +99,8 @@ reuse_within n v = omega arith
 
 -- an entered node's cells stand as those of a card that comes
 pub entry_cells : (f : ℕ → ℕ) (n : ℕ) (m : Mode) → Cells (stored (entry_stores n m) f) (view (first_stage n m))
-entry_cells f n Read = (grind (arith, nat_tests), grind (arith, nat_tests), grind (arith, nat_tests), grind (arith, nat_tests))
+entry_cells f n Read =
+    (grind (arith, nat_tests), grind (arith, nat_tests), grind (arith, nat_tests), grind (arith, nat_tests))
 entry_cells f n Write = (grind (arith, nat_tests), grind (arith, nat_tests), grind (arith, nat_tests))
 
 -- what the line sees of a card that comes

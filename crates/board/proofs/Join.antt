@@ -1,5 +1,6 @@
 -- A card joins the line at its end.
-use Rattle.std.proofs.Common.{◌≡◌, ℕ, zero, suc, true, false, ◌⊎◌, List, [], ◌∷◌, ◌++◌, sym, refl, ap, ◌∙◌, subst, inl, inr, ⊎_elim, arith}
+use Rattle.std.proofs.Common.{◌≡◌, ℕ, zero, suc, true, false, ◌⊎◌, List, [], ◌∷◌, ◌++◌, sym, refl, ap, ◌∙◌, subst}
+use Rattle.std.proofs.Common.{inl, inr, ⊎_elim, arith}
 use Rattle.board.proofs.Cells.{at, at_same, at_other, at_all, clash, next, prev, state, spin}
 use Rattle.board.proofs.Views.{link_node, View, away, comes_w, comes_r, waits_w, waits_r}
 use Rattle.board.proofs.Views.{holds_w, turn_r, active_r, sees_r, wakes_r, hands}

@@ -1,5 +1,6 @@
 -- The line in the cells, and who is inside: from what every run keeps.
-use Rattle.std.proofs.Common.{◌≡◌, ℕ, suc, true, false, ◌⊎◌, List, [], ◌∷◌, ◌++◌, sym, refl, ap, ◌∙◌, subst, inl, inr, ⊎_elim, append_assoc, arith}
+use Rattle.std.proofs.Common.{◌≡◌, ℕ, suc, true, false, ◌⊎◌, List, [], ◌∷◌, ◌++◌, sym, refl, ap, ◌∙◌, subst, inl, inr}
+use Rattle.std.proofs.Common.{⊎_elim, append_assoc, arith}
 use Rattle.memory.specs.Meaning.{standing}
 use Rattle.stages.specs.declared.stage.Mode.{Mode}
 use Rattle.stages.specs.declared.stage.Mode.TheVariants.{Read, Write}
@@ -12,7 +13,8 @@ use Rattle.board.specs.Book.{Book, Place}
 use Rattle.board.specs.Promise as promise
 use Rattle.board.specs.Promise.{cells_of, LineStands, InsideStands}
 use Rattle.board.proofs.Cells.{clash, next, prev, state}
-use Rattle.board.proofs.Views.{link_node, View, away, comes_w, comes_r, waits_w, waits_r, holds_w, turn_r, active_r, sees_r}
+use Rattle.board.proofs.Views.{link_node, View, away, comes_w, comes_r, waits_w, waits_r, holds_w, turn_r, active_r}
+use Rattle.board.proofs.Views.{sees_r}
 use Rattle.board.proofs.Views.{wakes_r}
 use Rattle.board.proofs.Views.{hands}
 use Rattle.board.proofs.Views.{view, node, link, joined, reader, active, granted}

@@ -1,7 +1,8 @@
 -- The book: a second record of every run, kept by the rules of the memory, the lock and the door alone.
 -- It takes nothing from a board or its memory. It is fed the same calls, with their arguments alone, and keeps a
 -- meaning, stages and remembered requests of its own; and beside them the line, the finished adds and what was asked.
-use Rattle.std.specs.Prelude.{◌≡◌, ℕ, Bool, true, false, cond, List, [], ◌∷◌, ◌++◌, Some, None, Ok, Err, Option, Result, ◌==◌, nat_lt}
+use Rattle.std.specs.Prelude.{◌≡◌, ℕ, Bool, true, false, cond, List, [], ◌∷◌, ◌++◌, Some, None, Ok, Err, Option}
+use Rattle.std.specs.Prelude.{Result, ◌==◌, nat_lt}
 use Rattle.memory.specs.declared.call.MemoryCall.{MemoryCall}
 use Rattle.memory.specs.Meaning.{Meaning}
 use Rattle.memory.specs.Calls.{performed}

@@ -1,5 +1,6 @@
 -- The promise over every run, as relations between the standing cells of the board's memory and the book.
-use Rattle.std.specs.Prelude.{◌≡◌, ℕ, ◌+◌, ◌<◌, min, true, cond, ◌⊎◌, List, [], ◌∷◌, ◌++◌, Ok, Err, Result, ◌==◌, ◌≢◌, slice_index}
+use Rattle.std.specs.Prelude.{◌≡◌, ℕ, ◌+◌, ◌<◌, min, true, cond, ◌⊎◌, List, [], ◌∷◌, ◌++◌, Ok, Err, Result, ◌==◌, ◌≢◌}
+use Rattle.std.specs.Prelude.{slice_index}
 use Rattle.stages.specs.declared.answer.Answer.{Answer}
 use Rattle.stages.specs.declared.layout.Field.{Field}
 use Rattle.stages.specs.declared.layout.Field.TheVariants.{Next, Prev, State, Spin}

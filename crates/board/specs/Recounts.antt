@@ -27,7 +27,8 @@ LeavesFree z k old new b d = (n : ℕ) → n < z.nodes → Spares k n → Free b
     → (f : Field) → at new (node_cell n f) ≡ at old (node_cell n f)
 
 -- a call k took a board from state s to state t and answered r; it had followed the calls cs
-pub record Recounted (z : Size) (k : Call) (cs : List Call) (s t : DoorState) (r : Result Answer DoorFault) : Type 0 where
+pub record Recounted (z : Size) (k : Call) (cs : List Call) (s t : DoorState) (r : Result Answer DoorFault)
+    : Type 0 where
   pub spared : LeavesFree z k (cells_in s) (cells_in t) (fed z cs) (fed z (cs ++ k ∷ []))
   pub tells : Tells z k s t (fed z cs) (fed z (cs ++ k ∷ [])) r
   pub grants : Grants z k s (fed z cs) r

@@ -25,7 +25,8 @@ impl<M: Memory> Board<M> {
         }
     }
 
-    // Sets a board up and makes the calls in turn, refused ones too. The promise stands before the first and after each.
+    // Sets a board up and makes the calls in turn, refused ones too. The promise stands before the first and after
+    // each.
     pub fn play(
         memory: M,
         cards: u16,

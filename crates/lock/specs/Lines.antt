@@ -1,5 +1,6 @@
 -- The nodes in line, found from the memory's standing cells and the cards' stages.
-use Rattle.std.specs.Prelude.{ℕ, zero, suc, ◌-◌, Bool, true, false, cond, List, [], ◌∷◌, ◌++◌, length, replicate, Ok, Err, Result, ◌==◌}
+use Rattle.std.specs.Prelude.{ℕ, zero, suc, ◌-◌, Bool, true, false, cond, List, [], ◌∷◌, ◌++◌, length, replicate, Ok}
+use Rattle.std.specs.Prelude.{Err, Result, ◌==◌}
 use Rattle.memory.specs.declared.fault.MemoryFault.{MemoryFault}
 use Rattle.memory.specs.Meaning.{Meaning, looking}
 use Rattle.stages.specs.declared.layout.Field.TheVariants.{Next}

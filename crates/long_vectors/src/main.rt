@@ -1,6 +1,6 @@
-// As `vectors`, with the longer schedules: runs those that standard input names, one a line, on both memories, and holds
-// what each prints, byte for byte, against the output that is stored for it: a schedule that takes every row of the
-// table of steps, one of 65,535 bytes, and one of a byte more.
+// As `vectors`, with the longer schedules: runs those that standard input names, one a line, on both memories, and
+// holds what each prints, byte for byte, against the output that is stored for it: a schedule that takes every row of
+// the table of steps, one of 65,535 bytes, and one of a byte more.
 #![tactic(auto)]
 
 use deferred::deferred::Deferred;

@@ -1,5 +1,6 @@
 -- A property of meanings that every call keeps, by what a call can do to a meaning.
-use Rattle.std.proofs.Common.{◌≡◌, ℕ, ◌<◌, Bool, true, false, cond, ltb, List, [], ◌∷◌, set, Some, None, Option, refl, arith}
+use Rattle.std.proofs.Common.{◌≡◌, ℕ, ◌<◌, Bool, true, false, cond, ltb, List, [], ◌∷◌, set, Some, None, Option, refl}
+use Rattle.std.proofs.Common.{arith}
 use Rattle.std.proofs.lemmas.Bool.{ltb-true}
 use Rattle.memory.specs.declared.write.Write.{Write}
 use Rattle.memory.specs.declared.access.Access.{Access}

@@ -1,5 +1,6 @@
 -- What is printed for a text is one. Assumes nothing.
-use Rattle.std.proofs.Common.{◌≡◌, ℕ, zero, suc, ◌+◌, ◌<◌, ◌≤◌, List, [], ◌∷◌, ◌++◌, map, length, take, drop, Ok, Err, decimal, Result, sym, refl, ap, ◌∙◌, subst, append_assoc, arith}
+use Rattle.std.proofs.Common.{◌≡◌, ℕ, zero, suc, ◌+◌, ◌<◌, ◌≤◌, List, [], ◌∷◌, ◌++◌, map, length, take, drop, Ok, Err}
+use Rattle.std.proofs.Common.{decimal, Result, sym, refl, ap, ◌∙◌, subst, append_assoc, arith}
 use Rattle.std.specs.List.{AllByRecursion}
 use Rattle.std.proofs.ByRecursion.{All-map, All-weaker}
 use Rattle.std.proofs.lemmas.List.{take-take, take_all, length-map}
@@ -74,7 +75,8 @@ sized_past bs after s line section stop le =
     le
 
 -- events can be told from their lines
-same_events : (es fs : List Event) → AllByRecursion (λ e. Small (numbers_of e)) es → AllByRecursion (λ e. Small (numbers_of e)) fs
+same_events : (es fs : List Event) → AllByRecursion (λ e. Small (numbers_of e)) es
+    → AllByRecursion (λ e. Small (numbers_of e)) fs
     → map written es ≡ map written fs → es ≡ fs
 same_events [] [] p q e = refl
 same_events [] (f ∷ fs) p q e =
@@ -117,7 +119,8 @@ module _ (bs head : List ℕ) (s : SizeLines) (section : SizeSection bs s head) 
   same_reached count k es fs rest after p q is =
       let x = length-map es written in
       let y = length-map fs written in
-      let front = (peel (front_of s count es) (front_of s k fs) rest after (no_ends count es rest p) (no_ends k fs after q)
+      let front = (peel (front_of s count es) (front_of s k fs) rest after (no_ends count es rest p)
+      (no_ends k fs after q)
       (omega arith) (sym p.whole ∙ q.whole)).0 in
       let all = take_all (length (front_of s count es)) (front_of s k fs) (omega arith) in
       let same : front_of s k fs ≡ front_of s count es = sym all ∙ front in

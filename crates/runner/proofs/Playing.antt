@@ -1,5 +1,6 @@
 -- A schedule that is run, event after event, and the ways out of it. Assumes nothing.
-use Rattle.std.proofs.Common.{◌≡◌, ℕ, ◌+◌, ◌<◌, ◌≤◌, true, List, [], ◌∷◌, ◌++◌, length, is_err, IsErrAnd, IfOk, Ok, Err, Result, sym, refl, ap, ◌∙◌, subst, append_assoc, append-nil, arith}
+use Rattle.std.proofs.Common.{◌≡◌, ℕ, ◌+◌, ◌<◌, ◌≤◌, true, List, [], ◌∷◌, ◌++◌, length, is_err, IsErrAnd, IfOk, Ok}
+use Rattle.std.proofs.Common.{Err, Result, sym, refl, ap, ◌∙◌, subst, append_assoc, append-nil, arith}
 use Rattle.std.proofs.lemmas.List.{length_push}
 use Rattle.memory.specs.Meaning.{Meaning}
 use Rattle.stages.specs.declared.answer.Answer.{Answer}
@@ -76,13 +77,15 @@ not_sized meaning memory s u e = made_err memory (asks s) u (e ∙ set_up_is mem
 
 module _ {X : Type 0} (meaning : X → Meaning) where
   -- a fault of the form is passed on
-  pub fails : (start bs now told : List ℕ) (r : Result (Board X) RunFault) (f : FormFault) → IsErrAnd r (λ y. y ≡ Form f)
+  pub fails : (start bs now told : List ℕ) (r : Result (Board X) RunFault) (f : FormFault)
+      → IsErrAnd r (λ y. y ≡ Form f)
       → now ≡ start ++ told → Prints bs (told ++ bad_line f) → Plays meaning start bs now r
   fails start bs now told (Ok u) f e is b = absurd e
   fails start bs now told (Err g) f e is b = subst (λ h. Plays meaning start bs now (Err h)) (sym e) (told, is, b)
 
   -- a fault of the sizes is passed on
-  pub fails_sizes : (start bs now : List ℕ) (r : Result (Board X) RunFault) (f : SizeFault) → IsErrAnd r (λ y. y ≡ Sizes f)
+  pub fails_sizes : (start bs now : List ℕ) (r : Result (Board X) RunFault) (f : SizeFault)
+      → IsErrAnd r (λ y. y ≡ Sizes f)
       → now ≡ start → Prints bs (sizes_line f) → Plays meaning start bs now r
   fails_sizes start bs now (Ok u) f e is b = absurd e
   fails_sizes start bs now (Err g) f e is b =

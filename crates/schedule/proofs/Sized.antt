@@ -1,5 +1,6 @@
 -- The size section, line by line: what is known after each line, and where it stops. Assumes nothing.
-use Rattle.std.proofs.Common.{◌≡◌, ℕ, ◌<◌, ◌≤◌, List, [], ◌∷◌, ◌++◌, length, take, IsErrAnd, Ok, Err, decimal, Result, sym, refl, ◌∙◌, subst, arith, Bor}
+use Rattle.std.proofs.Common.{◌≡◌, ℕ, ◌<◌, ◌≤◌, List, [], ◌∷◌, ◌++◌, length, take, IsErrAnd, Ok, Err, decimal, Result}
+use Rattle.std.proofs.Common.{sym, refl, ◌∙◌, subst, arith, Bor}
 use Rattle.textline.specs.declared.events.SizeLines.{SizeLines}
 use Rattle.textline.specs.declared.faults.FormFault.{FormFault}
 use Rattle.textline.specs.declared.faults.FormFault.TheVariants.{BadLine}

@@ -1,5 +1,7 @@
 -- Where a line ends, and that a text is cut into lines in one way. Assumes nothing.
-use Rattle.std.proofs.Common.{◌≡◌, ℕ, suc, ◌+◌, ◌-◌, ◌<◌, List, [], ◌∷◌, ◌++◌, length, get_or, take, drop, decimal, sym, refl, ap, ◌∙◌, add-zero, arith, length-append, take-append-drop, length-take-le, get_or-take}
+use Rattle.std.proofs.Common.{◌≡◌, ℕ, suc, ◌+◌, ◌-◌, ◌<◌, List, [], ◌∷◌, ◌++◌, length, get_or, take, drop, decimal}
+use Rattle.std.proofs.Common.{sym, refl, ap, ◌∙◌, add-zero, arith, length-append, take-append-drop, length-take-le}
+use Rattle.std.proofs.Common.{get_or-take}
 use native.Mathlib.Nat.{sub-zero}
 use Rattle.std.specs.List.{AllByRecursion}
 use Rattle.std.proofs.lemmas.Fmt.{digits_decimal}
