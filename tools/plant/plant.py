@@ -170,13 +170,13 @@ def read_block(block, place):
 
 
 def read_crates(repo):
-    """crates.txt: a line NAME: the crates it stands on; in the order of the file."""
+    """crates.txt: a line NAME: the crates it stands on, in the order of the file; NAME may have words behind it."""
     crates = {}
     for line in (repo / "crates.txt").read_text().split("\n"):
         line = line.split("#")[0].strip()
         if line:
             name, _, needs = line.partition(":")
-            crates[name.strip()] = needs.replace(",", " ").split()
+            crates[name.split()[0]] = needs.replace(",", " ").split()
     return crates
 
 

@@ -42,8 +42,7 @@ abbrev pub Carries : Size → Call → DoorState → DoorState → Result Answer
 Carries z k s t r = (cs : List Call) → Follows z cs s → Carried z k cs s t r
 
 -- The calls ks, refused ones included, were made in turn on a board that had followed the calls cs. Of every state s
--- that
--- the board was in before the first of them or after one of them, and of every one of them:
+-- that the board was in before the first of them or after one of them, and of every one of them:
 pub record CarriedThroughout (z : Size) (cs ks : List Call) : Type 0 where
   -- the promise stands in the board's memory
   pub stands : (before rest : List Call) → ks ≡ before ++ rest → (s : DoorState) → Follows z (cs ++ before) s
