@@ -5,12 +5,14 @@ use Rattle.std.proofs.Common.{inl, inr, ⊎_elim, arith}
 use Rattle.std.proofs.lemmas.List.{get_or-set_other, get_or-set_same, get_or-map, get_or_past, length-map, set_past}
 use Rattle.std.proofs.lemmas.Bool.{cases_eq, cases_lt, cond-false, eqb-true, ne_eqb, or_parts}
 use Rattle.memory.specs.declared.write.Write.{Write}
+use Rattle.memory.specs.declared.call.MemoryCall.{MemoryCall}
 use Rattle.memory.specs.declared.access.Access.{Access}
 use Rattle.memory.specs.declared.access.Access.TheVariants.{Reads, Writes}
 use Rattle.memory.specs.Meaning.{Meaning, Tx, none, live, doomed, tx_of, with_tx, served, struck, conflicts, has}
 use Rattle.memory.specs.Meaning.{wrote, marked, marking, recording, replaced, cleared}
 use Rattle.memory.specs.Isolation.{has_written, has_touched, Apart}
-use Rattle.memory.proofs.Kept.{Kept}
+use Rattle.memory.specs.Calls.{performed}
+use Rattle.memory.proofs.Kept.{Kept, kept_call}
 
 -- the same of cards' transactions as a function
 abbrev pub ApartBy : (ℕ → Tx) → Type 0
@@ -276,3 +278,7 @@ apart_kept = record {
       apart_served Writes card cell (live ms vs) m
       (subst (λ t. Grown Writes cell t (live ms vs)) (sym e) (grown_write cell value ms ws vs q));
 }
+
+-- one call keeps open transactions apart
+pub apart_call : (m : Meaning) (c : MemoryCall) → Apart m → Apart (performed m c).after
+apart_call m c A = kept_call Apart apart_kept m A c

@@ -8,9 +8,11 @@ use Rattle.memory.specs.declared.access.Access.{Access}
 use Rattle.memory.specs.declared.access.Access.TheVariants.{Reads, Writes}
 use Rattle.memory.specs.Meaning.{Meaning, Tx, none, live, doomed, tx_of, with_tx, served, struck, conflicts, has}
 use Rattle.memory.specs.Meaning.{wrote, marked, marking, recording, replaced, cleared, landed}
-use Rattle.memory.specs.Isolation.{Apart, once, Few, Orderly, AlwaysSound}
-use Rattle.memory.proofs.Kept.{Kept, kept_calls}
-use Rattle.memory.proofs.Isolation.{apart_kept, set_at, served_other}
+use Rattle.memory.specs.Isolation.{Apart, once, Few, Orderly, Sound, AlwaysSound}
+use Rattle.memory.specs.Calls.{performed}
+use Rattle.memory.specs.declared.call.MemoryCall.{MemoryCall}
+use Rattle.memory.proofs.Kept.{Kept, kept_call, kept_calls}
+use Rattle.memory.proofs.Isolation.{apart_call, apart_kept, set_at, served_other}
 use Rattle.memory.proofs.Isolation.{has_more, wrote_replaced, clear_none, clash}
 
 -- Lengths.
@@ -204,4 +206,36 @@ always_sound calls = record {
   cards = kept_calls Cards8 cards_kept cleared refl calls;
   orderly = kept_calls AllOrderly orderly_kept cleared orderly_kept.at_clear calls;
   apart = kept_calls Apart apart_kept cleared apart_kept.at_clear calls;
+}
+
+-- The same a call at a time.
+
+-- a memory keeps its 137 cells over a call
+pub cells_call : (m : Meaning) (c : MemoryCall) → Cells137 m → Cells137 (performed m c).after
+cells_call m c e = kept_call Cells137 cells_kept m e c
+
+-- and its eight cards
+pub cards_call : (m : Meaning) (c : MemoryCall) → Cards8 m → Cards8 (performed m c).after
+cards_call m c e = kept_call Cards8 cards_kept m e c
+
+-- transactions stay orderly over a call
+pub orderly_call : (m : Meaning) (c : MemoryCall) → AllOrderly m → AllOrderly (performed m c).after
+orderly_call m c O = kept_call AllOrderly orderly_kept m O c
+
+-- every call keeps all of it
+pub sound_call : (m : Meaning) (c : MemoryCall) → Sound m → Sound (performed m c).after
+sound_call m c S = record {
+  cells = cells_call m c S.cells;
+  cards = cards_call m c S.cards;
+  orderly = orderly_call m c S.orderly;
+  apart = apart_call m c S.apart;
+}
+
+-- a cleared memory has it
+pub sound_clear : Sound cleared
+sound_clear = record {
+  cells = refl;
+  cards = refl;
+  orderly = orderly_kept.at_clear;
+  apart = apart_kept.at_clear;
 }
