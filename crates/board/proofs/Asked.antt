@@ -24,7 +24,7 @@ use Rattle.stages.specs.Rows.{begin_of}
 use Rattle.lock.specs.declared.fault.LockFault.{LockFault}
 use Rattle.lock.specs.declared.fault.LockFault.TheVariants.{NoCard, NotAllowed, NoPlace, NotFree}
 use Rattle.lock.specs.declared.values.NodeValues.{NodeValues}
-use Rattle.lock.specs.Lock.{Size, LockState, Turn, staged, kept, refuses, free, stores, entry_stores}
+use Rattle.lock.specs.Lock.{Size, LockState, Turn, staged, refuses, free, stores, entry_stores}
 use Rattle.lock.specs.Lock.{first_stage, enter_by, enter_at, inside_by, leave_at, add_at, count_by, show_at, drop_by}
 use Rattle.lock.specs.Lock.{reuse_stores, reuse_by, reuse_at}
 use Rattle.door.specs.declared.fault.DoorFault.{DoorFault}

@@ -23,7 +23,7 @@ use Rattle.stages.specs.declared.stage.Stage.TheVariants.{Adds, WriterLeaves, Re
 use Rattle.stages.specs.Layout.{counter_cell}
 use Rattle.stages.specs.Rows.{call_of, begin_of, capped}
 use Rattle.lock.specs.Lock.{goes, returns_by, advanced}
-use Rattle.board.specs.Book.{Deed, plain, joins, deed, accepted}
+use Rattle.board.specs.Book.{Deed, plain, deed, accepted}
 use Rattle.board.proofs.Cells.{at, at_other, at_all, clash, next, prev, state, spin}
 use Rattle.board.proofs.Views.{View, view, waits_w, waits_r, holds_w, turn_r, hands}
 use Rattle.board.proofs.Views.{node, link, Cells}

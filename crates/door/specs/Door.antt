@@ -1,5 +1,5 @@
 -- What each call of the board answers and leaves: the door's rules over the lock's.
-use Rattle.std.specs.Prelude.{ℕ, Bool, true, false, cond, List, [], ◌∷◌, set, replicate, Some, None, Ok, Err, Option}
+use Rattle.std.specs.Prelude.{ℕ, Bool, true, false, cond, List, [], ◌∷◌, replicate, Some, None, Ok, Err, Option}
 use Rattle.std.specs.Prelude.{Result, ◌==◌, nat_lt, slice_index_or, slice_set}
 use Rattle.stages.specs.declared.answer.Answer.{Answer}
 use Rattle.stages.specs.declared.answer.Answer.TheVariants.{Done}

@@ -1,5 +1,5 @@
 -- What each call of the lock answers, and the memory's meaning and the cards' records after it, refused calls too.
-use Rattle.std.specs.Prelude.{ℕ, Bool, true, false, cond, List, [], ◌∷◌, set, replicate, Some, None, Ok, Err, Option}
+use Rattle.std.specs.Prelude.{ℕ, Bool, true, false, cond, List, [], ◌∷◌, replicate, Some, None, Ok, Err, Option}
 use Rattle.std.specs.Prelude.{Result, ◌==◌, nat_le, nat_lt, slice_index_or, slice_set}
 use Rattle.memory.specs.declared.fault.MemoryFault.{MemoryFault}
 use Rattle.memory.specs.declared.fault.Refusal.{Refusal}

@@ -1,6 +1,6 @@
 -- The queue line, one node after another. Assumes nothing.
 use Rattle.std.proofs.Common.{◌≡◌, ℕ, ◌+◌, ◌<◌, ◌≤◌, List, [], ◌∷◌, ◌++◌, length, get_or, take, codes, decimal, sym}
-use Rattle.std.proofs.Common.{refl, ap, ◌∙◌, append_assoc, append-nil, arith}
+use Rattle.std.proofs.Common.{ap, ◌∙◌, append-nil}
 use Rattle.std.proofs.lemmas.List.{take_more, take_all}
 use Rattle.textline.specs.Numbers.{spelled}
 use Rattle.textline.proofs.Fields.{spelled_push}

@@ -8,7 +8,6 @@ use Rattle.lock.specs.declared.fault.SizeFault.{SizeFault}
 use Rattle.lock.specs.Lock.{Size, sized}
 use Rattle.door.specs.declared.fault.DoorFault.{DoorFault}
 use Rattle.door.specs.declared.fault.Unfit.{Unfit}
-use Rattle.door.specs.declared.call.Call.{Call}
 use Rattle.door.specs.Door.{DoorState, new_door, called}
 use Rattle.door.specs.Door as door
 use Rattle.door.specs.Doors.{set_up}
@@ -21,7 +20,7 @@ use Rattle.textline.specs.declared.events.SizeLines.{SizeLines}
 use Rattle.textline.specs.declared.faults.FormFault.{FormFault}
 use Rattle.textline.specs.declared.faults.FormFault.TheVariants.{TooLong, BadLine}
 use Rattle.textline.specs.Lines.{NumberLine, EventLine}
-use Rattle.schedule.specs.Schedules.{Renders, StopsAt, RendersNone}
+use Rattle.schedule.specs.Schedules.{StopsAt, RendersNone}
 use Rattle.schedule.specs.Sections.{SizeSection, TakesSizes}
 use Rattle.schedule.proofs.Progress.{Progress, progress_none, progress_more, progress_all}
 use Rattle.schedule.proofs.Progress.{count_stops, event_stops, event_none, end_stops, end_none}
@@ -29,7 +28,7 @@ use Rattle.report.specs.Texts.{answer_line, bad_line, sizes_line}
 use Rattle.runner.specs.declared.faults.RunFault.{RunFault}
 use Rattle.runner.specs.declared.faults.RunFault.TheVariants.{Memory, Form, Sizes}
 use Rattle.runner.specs.Calls.{call_of_event, calls_of}
-use Rattle.runner.specs.Prints.{answered, asks, Reaches, Runs, Prints}
+use Rattle.runner.specs.Prints.{answered, asks, Reaches, Prints}
 use Rattle.runner.specs.Prints.Runs.{uncounted, stopped, finished}
 use Rattle.runner.specs.Prints.Prints.{long, unsized, ran}
 use Rattle.runner.specs.Plays.{Plays, Ends}

@@ -1,6 +1,5 @@
 -- Events of a schedule as calls of a board. Assumes nothing.
 use Rattle.std.specs.Prelude.{List, map}
-use Rattle.lock.specs.declared.values.NodeValues.{NodeValues}
 use Rattle.door.specs.declared.call.Call.{Call}
 use Rattle.door.specs.declared.call.Call.TheVariants as call
 use Rattle.textline.specs.declared.events.Event.{Event}

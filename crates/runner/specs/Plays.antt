@@ -1,7 +1,6 @@
 -- What a run leaves before its last line, and that line. Assumes nothing.
 use Rattle.std.specs.Prelude.{◌≡◌, ℕ, ◌≤◌, List, ◌++◌, length, Ok, Err, Result}
 use Rattle.memory.specs.Meaning.{Meaning}
-use Rattle.lock.specs.Lock.{Size}
 use Rattle.door.specs.declared.call.Call.{Call}
 use Rattle.board.specs.declared.board.Board.{Board}
 use Rattle.board.specs.Book.{fed, Follows}

@@ -1,4 +1,4 @@
-use Rattle.std.proofs.Common.{◌≡◌, ap, ◌∙◌, arith}
+use Rattle.std.proofs.Common.{◌∙◌, arith}
 use Rattle.report.proofs.Queue.{queue_more, queue_all}
 use Rattle.report.proofs.lines.queue_line.Goals as goal
 

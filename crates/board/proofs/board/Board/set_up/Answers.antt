@@ -1,4 +1,4 @@
-use Rattle.std.proofs.Common.{sym, refl, ap, ◌∙◌, rules}
+use Rattle.std.proofs.Common.{sym, refl, ap, ◌∙◌}
 use Rattle.door.specs.Doors.{given_by}
 use Rattle.board.proofs.History.{begins}
 use Rattle.board.proofs.Sizes.{within_of, fresh}
