@@ -47,22 +47,32 @@ module _ (z : Size) (W : Within z) where
   unfolding fed
   begins s e = stands_after [] s (sym e)
 
+  -- a call leads the board where it leads the book
+  arrives : (cs : List Call) (k : Call) (s t : DoorState) (r : Result Answer DoorFault) → Follows z cs s
+      → (r, t) ≡ called z s k → (fed z (cs ++ k ∷ [])).board ≡ t
+  arrives cs k s t r f e = ap (λ (b : Book). b.board) (fed_more z cs k) ∙ board_after z (fed z cs) k
+      ∙ ap (λ (x : DoorState). (called z x k).1) f
+      ∙ sym (ap (λ (p : Result Answer DoorFault × DoorState). p.1) e)
+
+  -- and what holds of the book's cells before and after it holds of the board's
+  of_cells : (P : List ℕ → List ℕ → Book → Book → Type 0) (cs : List Call) (k : Call) (s t : DoorState)
+      → Follows z cs s → (fed z (cs ++ k ∷ [])).board ≡ t
+      → P (cells_of (fed z cs)) (cells_of (after z (fed z cs) k)) (fed z cs) (after z (fed z cs) k)
+      → P (cells_in s) (cells_in t) (fed z cs) (fed z (cs ++ k ∷ []))
+  of_cells P cs k s t f g p =
+      let B = fed z cs in
+      let X = fed z (cs ++ k ∷ []) in
+      subst (λ (y : DoorState). P (cells_in s) (cells_in y) B X) g
+      (subst (λ (x : DoorState). P (cells_in x) (cells_of X) B X) f
+      (subst (λ (b : Book). P (cells_of B) (cells_of b) B b) (sym (fed_more z cs k)) p))
+
   -- a call
   pub carries : (k : Call) (s t : DoorState) (r : Result Answer DoorFault) → (r, t) ≡ called z s k → Carries z k s t r
   carries k s t r e cs f =
-      let B = fed z cs in
-      let X = fed z (cs ++ k ∷ []) in
-      let E = fed_more z cs k in
-      let G : X.board ≡ t = ap (λ (b : Book). b.board) E ∙ board_after z B k
-      ∙ ap (λ (x : DoorState). (called z x k).1) f
-      ∙ sym (ap (λ (p : Result Answer DoorFault × DoorState). p.1) e) in
+      let g = arrives cs k s t r f e in
       record {
-        after = stands_after (cs ++ k ∷ []) t G;
-        untouched =
-            subst (λ (y : DoorState). Untouched z k (cells_in s) (cells_in y) B X) G
-            (subst (λ (x : DoorState). Untouched z k (cells_in x) (cells_of X) B X) f
-            (subst (λ (b : Book). Untouched z k (cells_of B) (cells_of b) B b) (sym E)
-            (untouched z W B (whole z W cs).inv k)));
+        after = stands_after (cs ++ k ∷ []) t g;
+        untouched = of_cells (Untouched z k) cs k s t f g (untouched z W (fed z cs) (whole z W cs).inv k);
         never_8 = subst Never8
             (ap (λ (x : DoorState). (called z x k).0) f ∙ sym (ap (λ (p : Result Answer DoorFault × DoorState). p.0) e))
             (never z W cs k);
@@ -72,18 +82,9 @@ module _ (z : Size) (W : Within z) where
   pub recounts : (k : Call) (s t : DoorState) (r : Result Answer DoorFault) → (r, t) ≡ called z s k
       → Recounts z k s t r
   recounts k s t r e cs f =
-      let B = fed z cs in
-      let X = fed z (cs ++ k ∷ []) in
-      let E = fed_more z cs k in
-      let G : X.board ≡ t = ap (λ (b : Book). b.board) E ∙ board_after z B k
-      ∙ ap (λ (x : DoorState). (called z x k).1) f
-      ∙ sym (ap (λ (p : Result Answer DoorFault × DoorState). p.1) e) in
+      let g = arrives cs k s t r f e in
       record {
-        spared =
-            subst (λ (y : DoorState). LeavesFree z k (cells_in s) (cells_in y) B X) G
-            (subst (λ (x : DoorState). LeavesFree z k (cells_in x) (cells_of X) B X) f
-            (subst (λ (b : Book). LeavesFree z k (cells_of B) (cells_of b) B b) (sym E)
-            (leaves_free z W B (whole z W cs).inv k)));
+        spared = of_cells (LeavesFree z k) cs k s t f g (leaves_free z W (fed z cs) (whole z W cs).inv k);
         tells = replied s t r f (sym (ap (λ (p : Result Answer DoorFault × DoorState). p.1) e))
             (sym (ap (λ (p : Result Answer DoorFault × DoorState). p.0) e));
         grants = granted s r f (sym (ap (λ (p : Result Answer DoorFault × DoorState). p.0) e));
