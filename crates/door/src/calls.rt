@@ -58,6 +58,7 @@ impl<M: Memory> Door<M> {
     }
 
     // Makes a call.
+    #[tactic(auto, unfolding(crate::specs::Door::called))]
     pub fn call(&mut self, call: Call) -> Result<Answer, DoorFault>
         ensures moves { (result, door_state M.meaning self.new)
             ≡ called (door_size self.old) (door_state M.meaning self.old) call }

@@ -1,17 +1,47 @@
+ghost use Rattle.std.specs.Prelude.{◌≡◌};
+ghost use Rattle.door.specs.Kinds.{kind_number, Names};
+
+use crate::fault::DoorFault;
 use lock::fault::LockFault;
 use stages::answer::Answer;
 use stages::stage::Mode;
 
-// The kinds of requests, by the numbers that they have outside.
-pub const ENTER_TO_READ: u16 = 1;
+// A request's kind. Outside it is a number: the one beside its name.
+#[derive(Clone, Copy)]
+pub enum Kind {
+    EnterToRead = 1,
+    EnterToWrite = 2,
+    Leave = 3,
+    Add = 4,
+    Show = 5,
+}
 
-pub const ENTER_TO_WRITE: u16 = 2;
+impl Kind {
+    // The number of the kind outside.
+    pub fn number(self) -> u16
+        ensures { result ≡ kind_number self }
+    {
+        self as u16
+    }
+}
 
-pub const LEAVE: u16 = 3;
+// A number that no kind has makes a request malformed.
+impl TryFrom<u16> for Kind {
+    type Error = DoorFault;
 
-pub const ADD: u16 = 4;
+    ghost try_from_gives = { Names };
 
-pub const SHOW: u16 = 5;
+    fn try_from(number: u16) -> Result<Kind, DoorFault> {
+        match number {
+            1 => Ok(Kind::EnterToRead),
+            2 => Ok(Kind::EnterToWrite),
+            3 => Ok(Kind::Leave),
+            4 => Ok(Kind::Add),
+            5 => Ok(Kind::Show),
+            _ => Err(DoorFault::Malformed),
+        }
+    }
+}
 
 // What a card asks for.
 #[derive(Clone, Copy, PartialEq, Eq)]

@@ -1,12 +1,12 @@
 // Requests of five numbers: their form, resends, and what is remembered.
 ghost use Rattle.std.specs.Prelude.{◌≡◌};
-ghost use Rattle.door.specs.Door.{understood, resent, served, asked, told};
+ghost use Rattle.door.specs.Door.{understood, resent, served, asked};
 ghost use Rattle.door.specs.Doors.{door_state, door_size};
 ghost use Rattle.lock.specs.Locks.{lock_state};
 
 use crate::door::Door;
 use crate::fault::DoorFault;
-use crate::request::{ADD, ENTER_TO_READ, ENTER_TO_WRITE, LEAVE, Memo, Request, SHOW};
+use crate::request::{Kind, Memo, Request};
 use lock::fault::LockFault;
 use memory::memory::Memory;
 use stages::answer::Answer;
@@ -19,27 +19,20 @@ fn understand(toggle: u16, kind: u16, first: u16, second: u16) -> Result<Request
     if toggle > 1 {
         return Err(DoorFault::Malformed);
     }
-    match (kind, first, second) {
-        (ENTER_TO_READ, node, 0) => Ok(Request::Enter {
+    match (Kind::try_from(kind)?, first, second) {
+        (Kind::EnterToRead, node, 0) => Ok(Request::Enter {
             mode: Mode::Read,
             node,
         }),
-        (ENTER_TO_WRITE, node, 0) => Ok(Request::Enter {
+        (Kind::EnterToWrite, node, 0) => Ok(Request::Enter {
             mode: Mode::Write,
             node,
         }),
-        (LEAVE, 0, 0) => Ok(Request::Leave),
-        (ADD, counter, amount) => Ok(Request::Add { counter, amount }),
-        (SHOW, counter, 0) => Ok(Request::Show { counter }),
+        (Kind::Leave, 0, 0) => Ok(Request::Leave),
+        (Kind::Add, counter, amount) => Ok(Request::Add { counter, amount }),
+        (Kind::Show, counter, 0) => Ok(Request::Show { counter }),
         _ => Err(DoorFault::Malformed),
     }
-}
-
-// The answer as the door gives it.
-fn tell(answer: Result<Answer, LockFault>) -> Result<Answer, DoorFault>
-    ensures { result ≡ told answer }
-{
-    Ok(answer?)
 }
 
 impl Memo {
@@ -48,7 +41,7 @@ impl Memo {
         ensures { result ≡ resent self.request request self.answer }
     {
         match self.request {
-            Some(last) if last == request => tell(self.answer),
+            Some(last) if last == request => Ok(self.answer?),
             _ => Err(DoorFault::Differs),
         }
     }
@@ -102,6 +95,6 @@ impl<M: Memory> Door<M> {
             request: Some(request),
             answer,
         };
-        tell(answer)
+        Ok(answer?)
     }
 }

@@ -16,7 +16,7 @@ enum Choice {
     InPlace,
 }
 
-// The memory that a word names.
+// The memory that a word names. No FromStr: the error says the word, and what allocates is passed the heap.
 fn named(heap: Global, word: &str) -> anyhow::Result<Choice> {
     match word {
         "deferred" => Ok(Choice::Deferred),
@@ -37,8 +37,8 @@ fn chosen(rt: HostRuntime) -> anyhow::Result<Choice> {
     named(rt.alloc(), word.as_str())
 }
 
-// Reads, runs and prints.
-fn run(rt: HostRuntime) -> anyhow::Result<()> {
+// Reads, runs and prints. An error goes to standard error, and its status is a failure.
+fn main(rt: HostRuntime) -> anyhow::Result<()> {
     let heap = rt.alloc();
     let choice = chosen(rt)?;
     let mut text = Vec::new(heap);
@@ -51,9 +51,4 @@ fn run(rt: HostRuntime) -> anyhow::Result<()> {
     };
     rt.print(out.as_str())?;
     Ok(())
-}
-
-// An error goes to standard error, and its status is a failure.
-fn main(rt: HostRuntime) -> anyhow::Result<()> {
-    run(rt)
 }

@@ -27,6 +27,7 @@ use Rattle.schedule.proofs.Progress.{count_stops, event_stops, event_none, end_s
 use Rattle.report.specs.Texts.{answer_line, bad_line, sizes_line}
 use Rattle.runner.specs.declared.faults.RunFault.{RunFault}
 use Rattle.runner.specs.declared.faults.RunFault.TheVariants.{Memory, Form, Sizes}
+use Rattle.core.specs.declared.alloc.AllocError.{AllocError}
 use Rattle.runner.specs.Calls.{call_of_event, calls_of}
 use Rattle.runner.specs.Prints.{answered, asks, Reaches, Prints}
 use Rattle.runner.specs.Prints.Runs.{uncounted, stopped, finished}
@@ -91,10 +92,10 @@ module _ {X : Type 0} (meaning : X → Meaning) where
       subst (λ h. Plays meaning start bs now (Err h)) (sym e) ([], is ∙ sym (append-nil start), b)
 
   -- want of memory is passed on
-  pub fails_memory : (start bs now : List ℕ) (r : Result (Board X) RunFault) → IsErrAnd r (λ y. y ≡ Memory)
-      → Plays meaning start bs now r
-  fails_memory start bs now (Ok u) e = absurd e
-  fails_memory start bs now (Err g) e = subst (λ h. Plays meaning start bs now (Err h)) (sym e) tt
+  pub fails_memory : (start bs now : List ℕ) (r : Result (Board X) RunFault) (f : AllocError)
+      → IsErrAnd r (λ y. y ≡ Memory f) → Plays meaning start bs now r
+  fails_memory start bs now (Ok u) f e = absurd e
+  fails_memory start bs now (Err g) f e = subst (λ h. Plays meaning start bs now (Err h)) (sym e) tt
 
 -- one of the size lines is at fault
 pub bad_sizes : (bs : List ℕ) (f : FormFault) → TakesSizes bs (Err f) → Prints bs (bad_line f)
@@ -238,7 +239,7 @@ prints meaning bs start now out last (Err (Form f)) none t v is =
     subst (Prints bs) (sym (is ∙ (λ i. (t.1 ∙ ap (λ l. l ++ t.0) none) i ++ v i))) t.2
 prints meaning bs start now out last (Err (Sizes e)) none t v is =
     subst (Prints bs) (sym (is ∙ (λ i. (t.1 ∙ ap (λ l. l ++ t.0) none) i ++ v i))) t.2
-prints meaning bs start now out last (Err Memory) none t v is = absurd v
+prints meaning bs start now out last (Err (Memory _)) none t v is = absurd v
 
 -- nothing is printed for want of memory
 pub prints_none : {S E : Type 0} (bytes : S → List ℕ) (bs : List ℕ) (r : Result S E) → is_err r ≡ true

@@ -30,7 +30,7 @@ pub record Whole {X : Type 0} (meaning : X → Meaning) (bs told : List ℕ) (b 
 -- what is appended to `start` gives `now`; where the run does not end, the line of its fault completes what is printed
 abbrev pub Plays : {X : Type 0} → (X → Meaning) → List ℕ → List ℕ → List ℕ → Result (Board X) RunFault → Type 0
 Plays meaning start bs now (Ok b) = (told : List ℕ) × (now ≡ start ++ told) × Whole meaning bs told b
-Plays meaning start bs now (Err Memory) = Unit {0}
+Plays meaning start bs now (Err (Memory _)) = Unit {0}
 Plays meaning start bs now (Err (Form f)) = (told : List ℕ) × (now ≡ start ++ told) × Prints bs (told ++ bad_line f)
 Plays meaning start bs now (Err (Sizes e)) = (told : List ℕ) × (now ≡ start ++ told) × Prints bs (told ++ sizes_line e)
 
@@ -42,6 +42,6 @@ Queues meaning b last = (cs : List Call) → Follows (board_size b) cs (board_st
 -- `last` is the line that ends a run; there is none for want of memory
 abbrev pub Ends : {X : Type 0} → (X → Meaning) → Result (Board X) RunFault → List ℕ → Type 0
 Ends meaning (Ok b) last = Queues meaning b last
-Ends meaning (Err Memory) last = ⊥
+Ends meaning (Err (Memory _)) last = ⊥
 Ends meaning (Err (Form f)) last = last ≡ bad_line f
 Ends meaning (Err (Sizes e)) last = last ≡ sizes_line e

@@ -10,7 +10,7 @@ use std::alloc::AllocError;
 #[derive(Clone, Copy)]
 pub enum RunFault {
     // No memory for what is printed.
-    Memory,
+    Memory(AllocError),
     // The text is no schedule.
     Form(FormFault),
     // No board has these sizes.
@@ -18,10 +18,10 @@ pub enum RunFault {
 }
 
 impl From<AllocError> for RunFault {
-    ghost from_gives = { λ _ r. r ≡ Memory };
+    ghost from_gives = { λ e r. r ≡ Memory e };
 
-    fn from(_e: AllocError) -> RunFault {
-        RunFault::Memory
+    fn from(e: AllocError) -> RunFault {
+        RunFault::Memory(e)
     }
 }
 

@@ -82,7 +82,7 @@ fn last_line<M: Memory + Drop>(
         Ok(board) => queue(heap, &board),
         Err(RunFault::Form(fault)) => bad_line(heap, fault),
         Err(RunFault::Sizes(fault)) => refused_sizes(heap, fault),
-        Err(RunFault::Memory) => Err(AllocError),
+        Err(RunFault::Memory(e)) => Err(e),
     }
 }
 

@@ -1,5 +1,6 @@
 -- What is printed of a memory's answer.
-use Rattle.std.specs.Prelude.{ℕ, List, ◌++◌, codes, decimal}
+use Rattle.std.specs.Prelude.{ℕ, List, ◌++◌, Ok, Err, Result, codes, decimal}
+use Rattle.memory.specs.declared.fault.MemoryFault.{MemoryFault}
 use Rattle.memory.specs.Numbers.{number}
 use Rattle.twocars.specs.declared.reply.Reply.{Reply}
 use Rattle.twocars.specs.declared.reply.Reply.TheVariants.{Done, Value, Refused}
@@ -9,3 +10,8 @@ abbrev pub reply_text : Reply → List ℕ
 reply_text Done = codes "ok"
 reply_text (Value value) = decimal value
 reply_text (Refused refusal) = codes "refused " ++ decimal (number refusal)
+
+-- a value that was asked for, or why there is none
+abbrev pub replied : Result ℕ MemoryFault → Reply
+replied (Ok value) = Value value
+replied (Err fault) = Refused fault.refusal

@@ -15,7 +15,7 @@ use crate::compare::compare;
 use crate::printing::print_comparison;
 use crate::task::{count_both, tell};
 
-fn run(rt: HostRuntime) -> anyhow::Result<()> {
+fn main(rt: HostRuntime) -> anyhow::Result<()> {
     let mut memory = Deferred::new();
     match count_both(&mut memory) {
         Ok(observed) => tell(rt, &observed)?,
@@ -24,8 +24,4 @@ fn run(rt: HostRuntime) -> anyhow::Result<()> {
     let comparison = compare(rt.alloc(), &calls())?;
     print_comparison(rt, &comparison)?;
     Ok(())
-}
-
-fn main(rt: HostRuntime) -> anyhow::Result<()> {
-    run(rt)
 }

@@ -7,9 +7,9 @@ use std::io;
 
 // What one memory did at a call.
 fn print_seen(rt: HostRuntime, name: &str, call: MemoryCall, seen: &Seen) -> io::Result<()> {
-    let answer = Reply::to(call, &seen.answer);
-    let held = Reply::value(&seen.held);
-    let standing = Reply::value(&seen.standing);
+    let answer = Reply::to(call, seen.answer);
+    let held = Reply::from(seen.held);
+    let standing = Reply::from(seen.standing);
     println!(rt; "  {name} {answer}; the cell holds {held}, and {standing} stands")
 }
 

@@ -1,6 +1,6 @@
 // What a memory's answer says.
-ghost use Rattle.std.specs.Prelude.{Some};
-ghost use Rattle.twocars.specs.Replies.{reply_text};
+ghost use Rattle.std.specs.Prelude.{◌≡◌, Some};
+ghost use Rattle.twocars.specs.Replies.{reply_text, replied};
 
 use memory::call::MemoryCall;
 use memory::fault::{MemoryFault, Refusal};
@@ -15,23 +15,25 @@ pub enum Reply {
 }
 
 impl Reply {
-    // A value that was asked for, or why there is none.
-    pub(crate) fn value(answer: &Result<u16, MemoryFault>) -> Reply {
-        match *answer {
-            Ok(value) => Reply::Value(value),
-            Err(fault) => Reply::Refused(fault.refusal),
+    // What a call got.
+    pub(crate) fn to(call: MemoryCall, answer: Result<u16, MemoryFault>) -> Reply {
+        match call {
+            MemoryCall::Look { .. } | MemoryCall::Load { .. } | MemoryCall::Read { .. } => {
+                Reply::from(answer)
+            }
+            _ => answer.map_or_else(|fault| Reply::Refused(fault.refusal), |_| Reply::Done),
         }
     }
+}
 
-    // What a call got.
-    pub(crate) fn to(call: MemoryCall, answer: &Result<u16, MemoryFault>) -> Reply {
-        match (call, *answer) {
-            (_, Err(fault)) => Reply::Refused(fault.refusal),
-            (
-                MemoryCall::Look { .. } | MemoryCall::Load { .. } | MemoryCall::Read { .. },
-                Ok(value),
-            ) => Reply::Value(value),
-            (_, Ok(_)) => Reply::Done,
+// A value that was asked for, or why there is none.
+impl From<Result<u16, MemoryFault>> for Reply {
+    ghost from_gives = { λ answer r. r ≡ replied answer };
+
+    fn from(answer: Result<u16, MemoryFault>) -> Reply {
+        match answer {
+            Ok(value) => Reply::Value(value),
+            Err(fault) => Reply::Refused(fault.refusal),
         }
     }
 }

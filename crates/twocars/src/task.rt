@@ -1,6 +1,7 @@
-ghost use Rattle.std.specs.Prelude.{◌≡◌, Ok};
+ghost use Rattle.std.specs.Prelude.{◌≡◌, Ok, Some};
+ghost use Rattle.memory.specs.declared.fault.Refusal.TheVariants.{Doomed};
 
-use memory::fault::MemoryFault;
+use memory::fault::{MemoryFault, Refusal};
 use memory::memory::Memory;
 use std::io;
 
@@ -17,7 +18,7 @@ pub(crate) struct Story {
     pub(crate) north_reads: u16,
     pub(crate) south_reads: u16,
     pub(crate) stands_after_write: u16,
-    pub(crate) south_refused: u16,
+    pub(crate) south_refused: Option<Refusal>,
     pub(crate) stands_after_north: u16,
     pub(crate) south_reads_again: u16,
     pub(crate) stands_at_end: u16,
@@ -29,7 +30,7 @@ pub(crate) fn count_both<M: Memory>(memory: &mut M) -> Result<Story, MemoryFault
       north_reads = 0;
       south_reads = 0;
       stands_after_write = 0;
-      south_refused = 24;
+      south_refused = Some Doomed;
       stands_after_north = 1;
       south_reads_again = 1;
       stands_at_end = 2;
@@ -42,10 +43,8 @@ pub(crate) fn count_both<M: Memory>(memory: &mut M) -> Result<Story, MemoryFault
     let south_reads = memory.read(SOUTH, COUNTER)?;
     memory.write(NORTH, COUNTER, north_reads.saturating_add(1))?;
     let stands_after_write = memory.look(COUNTER)?;
-    let south_refused = match memory.write(SOUTH, COUNTER, south_reads.saturating_add(1)) {
-        Ok(()) => 0,
-        Err(fault) => fault.refusal.number(),
-    };
+    let slower = memory.write(SOUTH, COUNTER, south_reads.saturating_add(1));
+    let south_refused = slower.err().map(|fault| fault.refusal);
     memory.commit(NORTH)?;
     let stands_after_north = memory.look(COUNTER)?;
     memory.begin(SOUTH)?;
@@ -79,10 +78,12 @@ pub(crate) fn tell(rt: HostRuntime, story: &Story) -> io::Result<()> {
         "North writes one more. The counter stands at {}.",
         story.stands_after_write
     )?;
-    println!(rt;
-        "That doomed south: its write is refused with {}, and its transaction is gone.",
-        story.south_refused
-    )?;
+    if let Some(refusal) = story.south_refused {
+        println!(rt;
+            "That doomed south: its write is refused with {}, and its transaction is gone.",
+            refusal.number()
+        )?;
+    }
     println!(rt;
         "North commits. The counter stands at {}.",
         story.stands_after_north

@@ -43,11 +43,11 @@ returns-in_err-event g c =
 
 pub returns-in_err-answer_line : goal.returns-in_err-answer_line
 returns-in_err-answer_line g c =
-    fails_memory g.M.Memory.meaning _ _ _ _ c.from_residual-in_err-answer_line.ensures.1
+    fails_memory g.M.Memory.meaning _ _ _ _ _ c.from_residual-in_err-answer_line.ensures.1
 
 pub returns-in_err-push_str : goal.returns-in_err-push_str
 returns-in_err-push_str g c =
-    fails_memory g.M.Memory.meaning _ _ _ _ c.from_residual-in_err-push_str.ensures.1
+    fails_memory g.M.Memory.meaning _ _ _ _ _ c.from_residual-in_err-push_str.ensures.1
 
 pub loop-index-preserved : goal.loop-index-preserved
 loop-index-preserved g c =
