@@ -24,6 +24,7 @@ fn blank() -> Memo
 
 impl<M: Memory> Door<M> {
     // A new board of these sizes.
+    #[tactic(auto, unfolding(crate::specs::Door::new_door))]
     fn open(memory: M, sizes: Sizes) -> Door<M>
         ensures fresh { door_state M.meaning result ≡ new_door }
         ensures same { result.lock.sizes ≡ sizes }

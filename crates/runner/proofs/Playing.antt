@@ -27,7 +27,7 @@ use Rattle.schedule.proofs.Progress.{count_stops, event_stops, event_none, end_s
 use Rattle.report.specs.Texts.{answer_line, bad_line, sizes_line}
 use Rattle.runner.specs.declared.faults.RunFault.{RunFault}
 use Rattle.runner.specs.declared.faults.RunFault.TheVariants.{Memory, Form, Sizes}
-use Rattle.core.specs.declared.alloc.AllocError.{AllocError}
+use Rattle.std.specs.declared.alloc.AllocError.{AllocError}
 use Rattle.runner.specs.Calls.{call_of_event, calls_of}
 use Rattle.runner.specs.Prints.{answered, asks, Reaches, Prints}
 use Rattle.runner.specs.Prints.Runs.{uncounted, stopped, finished}
