@@ -5,7 +5,7 @@ ghost use Rattle.lock.specs.Lock.{has_node, free, stored, stores, entry_stores, 
 use crate::fault::LockFault;
 use crate::values::NodeValues;
 use memory::memory::Memory;
-use stages::layout::{Field, READER, WRITER, cell_of, link_of};
+use stages::layout::{Field, State, cell_of, link_of};
 use stages::stage::{Card, Mode, ReaderEntry, Stage, WriterEntry};
 
 // Whether a card at a stage has a node.
@@ -71,10 +71,10 @@ pub(crate) fn prepare<M: Memory>(
 {
     let me = link_of(node);
     let state = match mode {
-        Mode::Read => READER,
-        Mode::Write => WRITER,
+        Mode::Read => State::Reader,
+        Mode::Write => State::Writer,
     };
-    store(memory, card, cell_of(me, Field::State), state)?;
+    store(memory, card, cell_of(me, Field::State), state as u16)?;
     store(memory, card, cell_of(me, Field::Spin), 1)?;
     store(memory, card, cell_of(me, Field::Next), 0)?;
     match mode {
