@@ -28,6 +28,7 @@ impl<M: Memory> Lock<M> {
     }
 
     // Drops a card's transaction, open or doomed, and sends the card back to its begin.
+    #[tactic(auto, unfolding(memory::specs::Calls::performed))]
     pub fn abort(&mut self, card: usize) -> Result<Answer, LockFault>
         ensures moves { (result, lock_state M.meaning self.new)
             ≡ aborted (size_of self.old.sizes) (lock_state M.meaning self.old) card }

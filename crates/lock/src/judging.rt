@@ -5,7 +5,7 @@ ghost use Rattle.lock.specs.declared.fault.LockFault.TheVariants.{NoCard, NoPlac
 
 use crate::fault::LockFault;
 use crate::lock::Lock;
-use crate::nodes::is_free;
+use crate::nodes::has_node;
 use stages::stage::Stage;
 
 impl<M> Lock<M> {
@@ -20,13 +20,21 @@ impl<M> Lock<M> {
         Ok(self.table.records[card].stage)
     }
 
+    // Whether no card has a node.
+    fn is_free(&self, node: u8) -> bool
+        ensures { result ≡ free self.now.table.records node }
+    {
+        let cards = &self.table.records;
+        !cards.iter().any(|card| has_node(card.stage, node))
+    }
+
     // A node that there is and that no card has.
     pub(crate) fn free_node(&self, node: u16) -> Result<u8, LockFault>
         ensures { result ≡ cond (nat_lt node self.now.sizes.nodes)
             (cond (free self.now.table.records node) (Ok node) (Err NotFree)) (Err NoPlace) }
     {
         let node = self.sizes.node(node)?;
-        if !is_free(&self.table.records, node) {
+        if !self.is_free(node) {
             return Err(LockFault::NotFree);
         }
         Ok(node)

@@ -1,4 +1,6 @@
 // What a card may ask of the lock: to enter, to leave, to add to a counter and to be shown one.
+//
+// Each call promises that the sizes stay, since no invariant of a lock can compare it with what it was before.
 ghost use Rattle.std.specs.Prelude.{◌≡◌};
 ghost use Rattle.lock.specs.Lock.{entered, left, added, shown};
 ghost use Rattle.lock.specs.Locks.{lock_state, size_of};
@@ -70,6 +72,7 @@ impl<M: Memory> Lock<M> {
     }
 
     // One load of a counter, by a card inside.
+    #[tactic(auto, unfolding(memory::specs::Calls::performed))]
     pub fn show(&mut self, card: usize, counter: u16) -> Result<Answer, LockFault>
         ensures moves { (result, lock_state M.meaning self.new)
             ≡ shown (size_of self.old.sizes) (lock_state M.meaning self.old) card counter }
