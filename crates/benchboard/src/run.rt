@@ -4,12 +4,18 @@ use crate::workload::calls_of;
 use board::board::Board;
 use deferred::deferred::Deferred;
 use door::call::Call;
+use lock::sizes::Counts;
 use memory::memory::Memory;
 use std::alloc::{AllocError, Global};
 
 // The digest of the answers to all calls on a board newly set up on the memory.
 fn digest_on<M: Memory + Drop>(memory: M, calls: &[Call]) -> u64 {
-    match Board::set_up(memory, 8, 32, 8) {
+    let most = Counts {
+        cards: 8,
+        nodes: 32,
+        counters: 8,
+    };
+    match Board::set_up(memory, most) {
         Ok(mut board) => {
             let mut digest = 0;
             for call in calls {

@@ -10,16 +10,17 @@ use crate::board::Board;
 use door::call::Call;
 use door::door::Door;
 use door::fault::Unfit;
+use lock::sizes::Counts;
 use memory::memory::Memory;
 
 impl<M: Memory> Board<M> {
     // Clears the memory and sets a board up on it. Where a size is out of range, the memory comes back as it was.
-    pub fn set_up(memory: M, cards: u16, nodes: u16, counters: u16) -> Result<Board<M>, Unfit<M>>
-        ensures gives { given_by M.meaning result ≡ set_up memory cards nodes counters }
+    pub fn set_up(memory: M, asked: Counts) -> Result<Board<M>, Unfit<M>>
+        ensures gives { given_by M.meaning result ≡ set_up memory asked.cards asked.nodes asked.counters }
         ensures promise { MatchResult result
             (λ b. StandsAfter (board_size b) [] (board_state M.meaning b)) (λ _. Unit {0}) }
     {
-        match Door::set_up(memory, cards, nodes, counters) {
+        match Door::set_up(memory, asked) {
             Ok(door) => Ok(Board { door }),
             Err(unfit) => Err(unfit),
         }
@@ -27,21 +28,15 @@ impl<M: Memory> Board<M> {
 
     // Sets a board up and makes the calls in turn, refused ones too. The promise stands before the first and after
     // each.
-    pub fn play(
-        memory: M,
-        cards: u16,
-        nodes: u16,
-        counters: u16,
-        calls: &[Call],
-    ) -> Result<Board<M>, Unfit<M>>
-        ensures gives { given_by M.meaning result ≡ played memory cards nodes counters calls.now }
+    pub fn play(memory: M, asked: Counts, calls: &[Call]) -> Result<Board<M>, Unfit<M>>
+        ensures gives { given_by M.meaning result ≡ played memory asked.cards asked.nodes asked.counters calls.now }
         ensures promise { MatchResult result
             (λ b. StandsAfter (board_size b) calls.now (board_state M.meaning b)
             × CarriedThroughout (board_size b) [] calls.now) (λ _. Unit {0}) }
         ensures tells { MatchResult result
             (λ b. RecountedThroughout (board_size b) [] calls.now new_door) (λ _. Unit {0}) }
     {
-        match Board::set_up(memory, cards, nodes, counters) {
+        match Board::set_up(memory, asked) {
             Ok(mut board) => {
                 board.run(calls);
                 Ok(board)

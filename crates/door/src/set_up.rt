@@ -7,7 +7,7 @@ use crate::door::Door;
 use crate::fault::Unfit;
 use crate::request::Memo;
 use lock::lock::Lock;
-use lock::sizes::Sizes;
+use lock::sizes::{Counts, Sizes};
 use memory::memory::Memory;
 use stages::answer::Answer;
 
@@ -35,10 +35,10 @@ impl<M: Memory> Door<M> {
     }
 
     // Clears the memory and sets a lock up on it. Where a size is out of range, the memory comes back as it was.
-    pub fn set_up(memory: M, cards: u16, nodes: u16, counters: u16) -> Result<Door<M>, Unfit<M>>
-        ensures { given_by M.meaning result ≡ set_up memory cards nodes counters }
+    pub fn set_up(memory: M, asked: Counts) -> Result<Door<M>, Unfit<M>>
+        ensures { given_by M.meaning result ≡ set_up memory asked.cards asked.nodes asked.counters }
     {
-        match Sizes::new(cards, nodes, counters) {
+        match Sizes::new(asked) {
             Ok(sizes) => Ok(Door::open(memory, sizes)),
             Err(fault) => Err(Unfit { fault, memory }),
         }

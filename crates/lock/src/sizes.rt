@@ -1,5 +1,13 @@
 ghost use Rattle.std.specs.Prelude.{◌≤◌};
 
+// How many cards, nodes and counters are asked for, not judged yet.
+#[derive(Clone, Copy)]
+pub struct Counts {
+    pub cards: u16,
+    pub nodes: u16,
+    pub counters: u16,
+}
+
 // How many cards, nodes and counters a board has. A value exists only within the ranges, so that no later call judges
 // them.
 #[derive(Clone, Copy)]

@@ -1,35 +1,48 @@
 // The judgement of sizes, and what they have.
-ghost use Rattle.std.specs.Prelude.{◌≡◌, ltb, if◌then◌else◌, Some, None, nat_lt};
+ghost use Rattle.std.specs.Prelude.{◌≡◌, cond, Ok, Err, nat_lt};
 ghost use Rattle.lock.specs.Locks.{sizes_judged};
-ghost use Rattle.lock.specs.Lock.{sized};
+ghost use Rattle.lock.specs.Lock.{sized, within};
+ghost use Rattle.lock.specs.declared.fault.SizeFault.TheVariants.{OutOfRange};
+ghost use Rattle.lock.specs.declared.fault.LockFault.TheVariants.{NoPlace};
 
-use crate::fault::SizeFault;
-use crate::sizes::Sizes;
+use crate::fault::{LockFault, SizeFault};
+use crate::sizes::{Counts, Sizes};
 
-const MOST_CARDS: u16 = 8;
+const MOST_CARDS: u8 = 8;
 
-const MOST_NODES: u16 = 32;
+const MOST_NODES: u8 = 32;
 
-const MOST_COUNTERS: u16 = 8;
+const MOST_COUNTERS: u8 = 8;
+
+// A number as a size, where it is from 1 to the most.
+fn judged(most: u8, asked: u16) -> Result<u8, SizeFault>
+    ensures { result ≡ cond (within most asked) (Ok asked) (Err OutOfRange) }
+{
+    match u8::try_from(asked) {
+        Ok(size) if size >= 1 && size <= most => Ok(size),
+        _ => Err(SizeFault::OutOfRange),
+    }
+}
+
+// A number of a node or a counter, where there are more of them than that.
+fn placed(count: u8, number: u16) -> Result<u8, LockFault>
+    ensures { result ≡ cond (nat_lt number count) (Ok number) (Err NoPlace) }
+{
+    u8::try_from(number)
+        .ok()
+        .filter(|place| *place < count)
+        .ok_or(LockFault::NoPlace)
+}
 
 impl Sizes {
     // The sizes, where each is within its range.
-    pub fn new(cards: u16, nodes: u16, counters: u16) -> Result<Sizes, SizeFault>
-        ensures { sizes_judged result ≡ sized cards nodes counters }
+    pub fn new(asked: Counts) -> Result<Sizes, SizeFault>
+        ensures { sizes_judged result ≡ sized asked.cards asked.nodes asked.counters }
     {
-        if cards < 1 || cards > MOST_CARDS {
-            return Err(SizeFault::OutOfRange);
-        }
-        if nodes < 1 || nodes > MOST_NODES {
-            return Err(SizeFault::OutOfRange);
-        }
-        if counters < 1 || counters > MOST_COUNTERS {
-            return Err(SizeFault::OutOfRange);
-        }
         Ok(Sizes {
-            cards: cards as u8,
-            nodes: nodes as u8,
-            counters: counters as u8,
+            cards: judged(MOST_CARDS, asked.cards)?,
+            nodes: judged(MOST_NODES, asked.nodes)?,
+            counters: judged(MOST_COUNTERS, asked.counters)?,
         })
     }
 
@@ -41,23 +54,17 @@ impl Sizes {
     }
 
     // The node of a number, where there is one.
-    pub(crate) fn node(self, node: u16) -> Option<u8>
-        ensures { result ≡ (if ltb node self.nodes then Some node else None) }
+    pub(crate) fn node(self, node: u16) -> Result<u8, LockFault>
+        ensures { result ≡ cond (nat_lt node self.nodes) (Ok node) (Err NoPlace) }
     {
-        if node >= u16::from(self.nodes) {
-            return None;
-        }
-        Some(node as u8)
+        placed(self.nodes, node)
     }
 
     // The counter of a number, where there is one.
-    pub(crate) fn counter(self, counter: u16) -> Option<u8>
-        ensures { result ≡ (if ltb counter self.counters then Some counter else None) }
+    pub(crate) fn counter(self, counter: u16) -> Result<u8, LockFault>
+        ensures { result ≡ cond (nat_lt counter self.counters) (Ok counter) (Err NoPlace) }
     {
-        if counter >= u16::from(self.counters) {
-            return None;
-        }
-        Some(counter as u8)
+        placed(self.counters, counter)
     }
 
     pub fn cards(self) -> u8

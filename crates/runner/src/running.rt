@@ -10,6 +10,7 @@ use crate::calls::call_of;
 use crate::faults::RunFault;
 use board::board::Board;
 use door::fault::DoorFault;
+use lock::sizes::Counts;
 use memory::memory::Memory;
 use report::{answer_line, bad_line, queue_line, refused_sizes};
 use schedule::{Event, take_count, take_end, take_event, take_sizes};
@@ -50,7 +51,12 @@ fn play<M: Memory + Drop>(
         (string_bytes out.new) result }
 {
     let (sizes, rest) = take_sizes(text)?;
-    let mut board = Board::set_up(memory, sizes.cards, sizes.nodes, sizes.counters)?;
+    let asked = Counts {
+        cards: sizes.cards,
+        nodes: sizes.nodes,
+        counters: sizes.counters,
+    };
+    let mut board = Board::set_up(memory, asked)?;
     let (count, mut rest) = take_count(rest)?;
     for index in 0..count {
         let (event, after) = take_event(rest, index)?;

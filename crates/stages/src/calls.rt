@@ -1,4 +1,5 @@
-// The memory calls of the rows, named as the table of steps names them.
+// The memory calls of the rows, named as the table of steps names them: a row is one line by these, and would be six
+// with the names of a call's fields.
 ghost use Rattle.std.specs.Prelude.{◌≡◌};
 ghost use Rattle.memory.specs.declared.call.MemoryCall.TheVariants as call;
 

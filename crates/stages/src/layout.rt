@@ -5,24 +5,27 @@ ghost use Rattle.stages.specs.Layout.{link, cell_of, counter_cell};
 // The cell that holds the link of the last node in line. A link is a node's number and 1, or 0 for nobody.
 pub const TAIL: usize = 0;
 
-// The states of a node: of a reader, of a writer, and of an active reader, one that was let in or is about to be.
-pub const READER: u16 = 1;
+// The states of a node, by the numbers that stand in its cell. A cell may hold any other number, so what is read of one
+// stays a number and is compared with a state's.
+#[derive(Clone, Copy)]
+pub enum State {
+    Reader = 1,
+    Writer = 2,
+    // an active reader, one that was let in or is about to be
+    Active = 3,
+}
 
-pub const WRITER: u16 = 2;
-
-pub const ACTIVE: u16 = 3;
-
-// The four cells of a node.
+// The four cells of a node, by the places where they lie: the first node's are the cells 1 to 4.
 #[derive(Clone, Copy)]
 pub enum Field {
     // the link of the node behind
-    Next,
+    Next = 1,
     // the link of the node ahead; only readers keep it
-    Prev,
-    // 1 for a reader, 2 for a writer, 3 for an active reader
-    State,
+    Prev = 2,
+    // the number of a state
+    State = 3,
     // 0 once the node's card need not wait
-    Spin,
+    Spin = 4,
 }
 
 // The link of a node.
@@ -40,13 +43,7 @@ pub fn cell_of(link: u16, field: Field) -> usize
     if link == 0 {
         return TAIL;
     }
-    let offset = match field {
-        Field::Next => 1,
-        Field::Prev => 2,
-        Field::State => 3,
-        Field::Spin => 4,
-    };
-    offset + 4 * (link as usize - 1)
+    field as usize + 4 * usize::from(link - 1)
 }
 
 // The cell of a counter: the counters lie behind the nodes.

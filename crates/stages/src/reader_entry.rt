@@ -1,10 +1,10 @@
 // A reader's way in: it joins the line as a writer does, then makes itself active and lets a reader behind it in.
-ghost use Rattle.std.specs.Prelude.{◌≡◌, ℕ};
-ghost use Rattle.stages.specs.Rows.{reader_entry_call, reader_entry_goes, reader_entry_begin, in_transaction};
+ghost use Rattle.std.specs.Prelude.{◌≡◌};
+ghost use Rattle.stages.specs.Rows.{reader_entry_call, reader_entry_goes, reader_entry_begin};
 
 use crate::answer::Answer;
 use crate::calls::{load, read, store, write};
-use crate::layout::{ACTIVE, Field, READER, TAIL, cell_of, link_of};
+use crate::layout::{Field, State, TAIL, cell_of, link_of};
 use crate::stage::{Mode, ReaderEntry, Stage};
 use memory::call::MemoryCall;
 
@@ -23,7 +23,7 @@ impl ReaderEntry {
             ReaderEntry::R6 { pred } => read(card, cell_of(pred, Field::State)),
             ReaderEntry::R7 { .. } | ReaderEntry::R12 { .. } => MemoryCall::Commit { card },
             ReaderEntry::R8 => load(card, cell_of(me, Field::Spin)),
-            ReaderEntry::R10 => write(card, cell_of(me, Field::State), ACTIVE),
+            ReaderEntry::R10 => write(card, cell_of(me, Field::State), State::Active as u16),
             ReaderEntry::R11 => read(card, cell_of(me, Field::Next)),
             ReaderEntry::R13 { nxt } => load(card, cell_of(nxt, Field::State)),
             ReaderEntry::R14 { nxt } => store(card, cell_of(nxt, Field::Spin), 0),
@@ -42,7 +42,8 @@ impl ReaderEntry {
             ReaderEntry::R4 { pred } => ReaderEntry::R5 { pred },
             ReaderEntry::R5 { pred } => ReaderEntry::R6 { pred },
             ReaderEntry::R6 { pred } => ReaderEntry::R7 { pred, ps: value },
-            ReaderEntry::R7 { pred, ps } if pred != 0 && ps != ACTIVE => ReaderEntry::R8,
+            ReaderEntry::R7 { pred, ps } if pred != 0 && ps != State::Active as u16 =>
+                ReaderEntry::R8,
             ReaderEntry::R8 if value != 0 => return (
                 Stage::ReaderEnters { node, at: self },
                 Answer::Wait,
@@ -52,7 +53,7 @@ impl ReaderEntry {
             ReaderEntry::R10 => ReaderEntry::R11,
             ReaderEntry::R11 => ReaderEntry::R12 { nxt: value },
             ReaderEntry::R12 { nxt } if nxt != 0 => ReaderEntry::R13 { nxt },
-            ReaderEntry::R13 { nxt } if value == READER => ReaderEntry::R14 { nxt },
+            ReaderEntry::R13 { nxt } if value == State::Reader as u16 => ReaderEntry::R14 { nxt },
             ReaderEntry::R12 { .. } | ReaderEntry::R13 { .. } | ReaderEntry::R14 { .. } => {
                 return (
                     Stage::Inside {
@@ -76,28 +77,6 @@ impl ReaderEntry {
                 ReaderEntry::R9
             }
             _ => ReaderEntry::R1,
-        }
-    }
-
-    // Whether the row goes by a transaction.
-    pub(crate) fn has_transaction(self) -> bool
-        ensures { (card node : ℕ) → result ≡ in_transaction (reader_entry_call card node self) }
-    {
-        match self {
-            ReaderEntry::R1
-            | ReaderEntry::R8
-            | ReaderEntry::R9
-            | ReaderEntry::R13 { .. }
-            | ReaderEntry::R14 { .. } => false,
-            ReaderEntry::R2
-            | ReaderEntry::R3 { .. }
-            | ReaderEntry::R4 { .. }
-            | ReaderEntry::R5 { .. }
-            | ReaderEntry::R6 { .. }
-            | ReaderEntry::R7 { .. }
-            | ReaderEntry::R10
-            | ReaderEntry::R11
-            | ReaderEntry::R12 { .. } => true,
         }
     }
 }

@@ -1,10 +1,10 @@
 // A reader's way out: it joins its predecessor and its successor, and wakes a writer that it leaves first in line.
-ghost use Rattle.std.specs.Prelude.{◌≡◌, ℕ};
-ghost use Rattle.stages.specs.Rows.{reader_exit_call, reader_exit_goes, reader_exit_begin, in_transaction};
+ghost use Rattle.std.specs.Prelude.{◌≡◌};
+ghost use Rattle.stages.specs.Rows.{reader_exit_call, reader_exit_goes, reader_exit_begin};
 
 use crate::answer::Answer;
 use crate::calls::{read, store, write};
-use crate::layout::{Field, WRITER, cell_of, link_of};
+use crate::layout::{Field, State, cell_of, link_of};
 use crate::stage::{ReaderExit, Stage};
 use memory::call::MemoryCall;
 
@@ -43,9 +43,8 @@ impl ReaderExit {
                 nxt,
                 ss: value,
             },
-            ReaderExit::Y7 { pred, nxt, ss } if pred == 0 && nxt != 0 && ss == WRITER => {
-                ReaderExit::Y8 { nxt }
-            }
+            ReaderExit::Y7 { pred, nxt, ss }
+                if pred == 0 && nxt != 0 && ss == State::Writer as u16 => { ReaderExit::Y8 { nxt } }
             ReaderExit::Y7 { .. } | ReaderExit::Y8 { .. } => return (Stage::Idle, Answer::Out),
         };
         (Stage::ReaderLeaves { node, at }, Answer::Step)
@@ -58,21 +57,6 @@ impl ReaderExit {
         match self {
             ReaderExit::Y8 { .. } => self,
             _ => ReaderExit::Y1,
-        }
-    }
-
-    // Whether the row goes by a transaction.
-    pub(crate) fn has_transaction(self) -> bool
-        ensures { (card node : ℕ) → result ≡ in_transaction (reader_exit_call card node self) }
-    {
-        match self {
-            ReaderExit::Y1 | ReaderExit::Y8 { .. } => false,
-            ReaderExit::Y2
-            | ReaderExit::Y3 { .. }
-            | ReaderExit::Y4 { .. }
-            | ReaderExit::Y5 { .. }
-            | ReaderExit::Y6 { .. }
-            | ReaderExit::Y7 { .. } => true,
         }
     }
 }

@@ -1,4 +1,7 @@
 // The rows of the table of steps: a card's stage names its row, and each row makes one memory call.
+//
+// Each phase has rows of its own, and nothing works on any phase alike: a trait of theirs would add a table of laws and
+// take away no arm of these.
 ghost use Rattle.std.specs.Prelude.{◌≡◌, ℕ};
 ghost use Rattle.stages.specs.Rows.{call_of, begin_of, in_transaction, by_transaction};
 
@@ -44,28 +47,23 @@ pub fn begin_of(stage: Stage) -> Stage
     }
 }
 
-// Whether the row of a stage goes by a transaction; a stage without a row has none.
+// Whether the row of a stage goes by a transaction, which is so for any card on any board; a stage without a row has
+// none.
 pub fn has_transaction(stage: Stage) -> bool
     ensures { (nodes card : ℕ) → result ≡ by_transaction (call_of nodes card stage) }
 {
-    match stage {
-        Stage::Idle | Stage::Inside { .. } | Stage::Adds { .. } => false,
-        Stage::WriterEnters { at, .. } => at.has_transaction(),
-        Stage::ReaderEnters { at, .. } => at.has_transaction(),
-        Stage::WriterLeaves { at, .. } => at.has_transaction(),
-        Stage::ReaderLeaves { at, .. } => at.has_transaction(),
-    }
+    call_of(0, 0, stage).is_some_and(in_transaction)
 }
 
 // Whether a call goes by a transaction.
 pub fn in_transaction(call: MemoryCall) -> bool
     ensures { result ≡ in_transaction call }
 {
-    match call {
+    matches!(
+        call,
         MemoryCall::Read { .. }
-        | MemoryCall::Write { .. }
-        | MemoryCall::Commit { .. }
-        | MemoryCall::Drop { .. } => true,
-        _ => false,
-    }
+            | MemoryCall::Write { .. }
+            | MemoryCall::Commit { .. }
+            | MemoryCall::Drop { .. }
+    )
 }

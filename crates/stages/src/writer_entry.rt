@@ -1,6 +1,6 @@
 // A writer's way in: it takes the tail, links itself behind its predecessor and waits for it.
-ghost use Rattle.std.specs.Prelude.{◌≡◌, ℕ};
-ghost use Rattle.stages.specs.Rows.{writer_entry_call, writer_entry_goes, writer_entry_begin, in_transaction};
+ghost use Rattle.std.specs.Prelude.{◌≡◌};
+ghost use Rattle.stages.specs.Rows.{writer_entry_call, writer_entry_goes, writer_entry_begin};
 
 use crate::answer::Answer;
 use crate::calls::{load, read, write};
@@ -57,21 +57,8 @@ impl WriterEntry {
         ensures { result ≡ writer_entry_begin self }
     {
         match self {
-            WriterEntry::W6 => WriterEntry::W6,
+            WriterEntry::W6 => self,
             _ => WriterEntry::W1,
-        }
-    }
-
-    // Whether the row goes by a transaction.
-    pub(crate) fn has_transaction(self) -> bool
-        ensures { (card node : ℕ) → result ≡ in_transaction (writer_entry_call card node self) }
-    {
-        match self {
-            WriterEntry::W1 | WriterEntry::W6 => false,
-            WriterEntry::W2
-            | WriterEntry::W3 { .. }
-            | WriterEntry::W4 { .. }
-            | WriterEntry::W5 { .. } => true,
         }
     }
 }

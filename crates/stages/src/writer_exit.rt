@@ -1,6 +1,6 @@
 // A writer's way out: it takes itself off the line and wakes its successor.
-ghost use Rattle.std.specs.Prelude.{◌≡◌, ℕ};
-ghost use Rattle.stages.specs.Rows.{writer_exit_call, writer_exit_goes, writer_exit_begin, in_transaction};
+ghost use Rattle.std.specs.Prelude.{◌≡◌};
+ghost use Rattle.stages.specs.Rows.{writer_exit_call, writer_exit_goes, writer_exit_begin};
 
 use crate::answer::Answer;
 use crate::calls::{read, store, write};
@@ -43,16 +43,6 @@ impl WriterExit {
         match self {
             WriterExit::X5 { .. } => self,
             _ => WriterExit::X1,
-        }
-    }
-
-    // Whether the row goes by a transaction.
-    pub(crate) fn has_transaction(self) -> bool
-        ensures { (card node : ℕ) → result ≡ in_transaction (writer_exit_call card node self) }
-    {
-        match self {
-            WriterExit::X1 | WriterExit::X5 { .. } => false,
-            WriterExit::X2 | WriterExit::X3 { .. } | WriterExit::X4 { .. } => true,
         }
     }
 }

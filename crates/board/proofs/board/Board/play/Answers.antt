@@ -12,7 +12,7 @@ returns-in-Ok g c =
     let began = c.in-Ok.ensures.promise in
     record {
       gives =
-          plays c.args.memory c.args.cards c.args.nodes c.args.counters _
+          plays c.args.memory c.args.asked.cards c.args.asked.nodes c.args.asked.counters _
           c.args.calls.now _ _ _ _ refl made
           c.run.ensures.same c.run.ensures.moves;
       promise = (

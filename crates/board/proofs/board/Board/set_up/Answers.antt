@@ -11,5 +11,5 @@ returns-in-Ok g c =
       gives = made;
       promise =
           begins _ (within_of c.in-Ok.door.lock.sizes) _
-          (fresh c.args.memory c.args.cards c.args.nodes c.args.counters _ _ _ refl made);
+          (fresh c.args.memory c.args.asked.cards c.args.asked.nodes c.args.asked.counters _ _ _ refl made);
     }
