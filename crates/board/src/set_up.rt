@@ -20,10 +20,8 @@ impl<M: Memory> Board<M> {
         ensures promise { MatchResult result
             (λ b. StandsAfter (board_size b) [] (board_state M.meaning b)) (λ _. Unit {0}) }
     {
-        match Door::set_up(memory, asked) {
-            Ok(door) => Ok(Board { door }),
-            Err(unfit) => Err(unfit),
-        }
+        let door = Door::set_up(memory, asked)?;
+        Ok(Board { door })
     }
 
     // Sets a board up and makes the calls in turn, refused ones too. The promise stands before the first and after
@@ -36,13 +34,9 @@ impl<M: Memory> Board<M> {
         ensures tells { MatchResult result
             (λ b. RecountedThroughout (board_size b) [] calls.now new_door) (λ _. Unit {0}) }
     {
-        match Board::set_up(memory, asked) {
-            Ok(mut board) => {
-                board.run(calls);
-                Ok(board)
-            }
-            Err(unfit) => Err(unfit),
-        }
+        let mut board = Board::set_up(memory, asked)?;
+        board.run(calls);
+        Ok(board)
     }
 
     // The memory, with whatever stands in it.
