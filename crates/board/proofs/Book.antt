@@ -14,6 +14,7 @@ use Rattle.door.specs.declared.fault.DoorFault.{DoorFault}
 use Rattle.door.specs.declared.fault.DoorFault.TheVariants.{Malformed, Differs, Lock}
 use Rattle.door.specs.declared.request.Request.{Request}
 use Rattle.door.specs.declared.request.Memo.{Memo}
+use Rattle.door.specs.declared.request.Remembered.{Remembered}
 use Rattle.door.specs.declared.call.Call.{Call}
 use Rattle.door.specs.declared.call.Call.TheVariants as call
 use Rattle.door.specs.Faults as door
@@ -39,12 +40,17 @@ all_same zero i a = refl
 all_same (suc n) zero a = refl
 all_same (suc n) (suc i) a = all_same n i a
 
+-- the answer to a card's last request, where it has one, is no refusal of the memory
+abbrev pub FineLast : Option Remembered → Type 0
+FineLast None = Unit {0}
+FineLast (Some l) = Fine l.answer
+
 -- what is remembered of each card is no refusal of the memory
 abbrev pub Calm : List Memo → Type 0
-Calm ms = (c : ℕ) → Fine (get_or ms c no_memo).answer
+Calm ms = (c : ℕ) → FineLast (get_or ms c no_memo).last
 
 -- one more that is none
-calm_set : (ms : List Memo) (c : ℕ) (r : Memo) → Calm ms → Fine r.answer → Calm (set ms c r)
+calm_set : (ms : List Memo) (c : ℕ) (r : Memo) → Calm ms → FineLast r.last → Calm (set ms c r)
 calm_set [] c r h k d = h d
 calm_set (x ∷ ms) zero r h k zero = k
 calm_set (x ∷ ms) zero r h k (suc d) = h (suc d)
@@ -57,12 +63,12 @@ told_never (Ok a) h = tt
 told_never (Err f) h = h
 
 -- the answer to a resend
-resent_never : (o : Option Request) (w : Request) (a : Result Answer LockFault) → Fine a → Never8 (resent o w a)
-resent_never None w a h = λ e. omega arith
-resent_never (Some v) w a h = go (same v w)
+resent_never : (o : Option Remembered) (w : Request) → FineLast o → Never8 (resent o w)
+resent_never None w h = λ e. omega arith
+resent_never (Some l) w h = go (same l.request w)
   where
-    go : (b : Bool) → Never8 (cond b (told a) (Err Differs))
-    go true = told_never a h
+    go : (b : Bool) → Never8 (cond b (told l.answer) (Err Differs))
+    go true = told_never l.answer h
     go false = λ e. omega arith
 
 -- a request that was understood, or refused for its form
@@ -113,16 +119,16 @@ module _ (z : Size) (W : Within z) where
   judged_fair s l q h c lt t (Ok w) n = go (eqb (memo_of s c).toggle t)
     where
       go : (b : Bool) → Fair-reply s
-          (cond b (resent (memo_of s c).request w (memo_of s c).answer, s)
-          (noted s c t w (served z s.lock c w))) l q
+          (cond b (resent (memo_of s c).last w, s) (noted s c t w (served z s.lock c w))) l q
       go true = record {
         safe = h;
         calm = λ k. k;
-        never = λ k. resent_never (memo_of s c).request w (memo_of s c).answer (k c);
+        never = λ k. resent_never (memo_of s c).last w (k c);
       }
       go false = let g = served_good z W s.lock l q h c lt w in record {
         safe = g.0;
-        calm = λ k. calm_set s.memos c (record { toggle = t; request = Some w; answer = (served z s.lock c w).0 })
+        calm = λ k. calm_set s.memos c
+            (record { toggle = t; last = Some (record { request = w; answer = (served z s.lock c w).0 }) })
             k g.1;
         never = λ _. told_never (served z s.lock c w).0 g.1;
       }
@@ -210,7 +216,7 @@ module _ (z : Size) (W : Within z) where
       idle_all : (c : ℕ) → stage_of new_lock c ≡ Idle
       idle_all c = ap (λ (r : Card). r.stage) (all_same 8 c idle_card)
 
-      calm_new : (n c : ℕ) → Fine (get_or (replicate n new_memo) c no_memo).answer
+      calm_new : (n c : ℕ) → FineLast (get_or (replicate n new_memo) c no_memo).last
       calm_new zero c = tt
       calm_new (suc n) zero = tt
       calm_new (suc n) (suc c) = calm_new n c

@@ -33,11 +33,11 @@ judged_other z s c d t n (Err e) = refl
 judged_other z s c d t n (Ok w) = go (eqb (memo_of s d).toggle t)
   where
     go : (x : Bool) → memo_of
-        (cond x (resent (memo_of s d).request w (memo_of s d).answer, s)
-        (noted s d t w (served z s.lock d w))).1 c ≡ memo_of s c
+        (cond x (resent (memo_of s d).last w, s) (noted s d t w (served z s.lock d w))).1 c ≡ memo_of s c
     go true = refl
     go false = get_or-set_other s.memos d c
-        (record { toggle = t; request = Some w; answer = (served z s.lock d w).0 }) no_memo (λ e. n (sym e))
+        (record { toggle = t; last = Some (record { request = w; answer = (served z s.lock d w).0 }) }) no_memo
+        (λ e. n (sym e))
 
 asked_other : (z : Size) (s : DoorState) (c d t k a b : ℕ) → (d ≡ c → ⊥)
     → memo_of (asked z s d t k a b).1 c ≡ memo_of s c
@@ -60,10 +60,10 @@ ran_other z s c (call.Reuse d m v ∷ cs) n = ran_other z (called z s (call.Reus
 
 -- the reply to a request in a state that remembers the memo m of its card, with the toggle of the request
 by_memo : (z : Size) (u : DoorState) (c t : ℕ) (w : Request) (m : Memo) → memo_of u c ≡ m → eqb m.toggle t ≡ true
-    → judged z u c t (Ok w) ≡ (resent m.request w m.answer, u)
+    → judged z u c t (Ok w) ≡ (resent m.last w, u)
 by_memo z u c t w m e q = ap (λ (x : Memo).
-    cond (eqb x.toggle t) (resent x.request w x.answer, u) (noted u c t w (served z u.lock c w))) e
-    ∙ ap (λ (x : Bool). cond x (resent m.request w m.answer, u) (noted u c t w (served z u.lock c w))) q
+    cond (eqb x.toggle t) (resent x.last w, u) (noted u c t w (served z u.lock c w))) e
+    ∙ ap (λ (x : Bool). cond x (resent m.last w, u) (noted u c t w (served z u.lock c w))) q
 
 -- a request in a state that remembers of its card what the same request left
 judged_again : (z : Size) (s u : DoorState) (c t : ℕ) → c < length s.memos → (r : Result Request DoorFault)
@@ -72,22 +72,22 @@ judged_again z s u c t lt (Err e) m = refl
 judged_again z s u c t lt (Ok w) m = go (eqb (memo_of s c).toggle t) refl m
   where
     new : Memo
-    new = record { toggle = t; request = Some w; answer = (served z s.lock c w).0 }
+    new = record { toggle = t; last = Some (record { request = w; answer = (served z s.lock c w).0 }) }
 
     go : (x : Bool) → eqb (memo_of s c).toggle t ≡ x
         → memo_of u c ≡ memo_of
-        (cond x (resent (memo_of s c).request w (memo_of s c).answer, s)
+        (cond x (resent (memo_of s c).last w, s)
         (noted s c t w (served z s.lock c w))).1 c
         → judged z u c t (Ok w)
         ≡ (
-          (cond x (resent (memo_of s c).request w (memo_of s c).answer, s)
+          (cond x (resent (memo_of s c).last w, s)
               (noted s c t w (served z s.lock c w))).0,
           u,
         )
     go true q m = by_memo z u c t w (memo_of s c) m q
     go false q m =
         by_memo z u c t w new (m ∙ get_or-set_same s.memos c new no_memo lt) (eq-eqb t t refl)
-        ∙ ap (λ (x : Bool). (cond x (told new.answer) (Err Differs), u)) (same_self w)
+        ∙ ap (λ (x : Bool). (cond x (told (served z s.lock c w).0) (Err Differs), u)) (same_self w)
 
 asked_again : (z : Size) (s u : DoorState) (c t k a b : ℕ) → z.cards ≤ 8 → length s.memos ≡ 8
     → memo_of u c ≡ memo_of (asked z s c t k a b).1 c → asked z u c t k a b ≡ ((asked z s c t k a b).0, u)

@@ -165,10 +165,10 @@ unfolding called
 request_replies z s c t k x y P none judges = by_card (ltb c z.cards) refl
   where
     by_toggle : (w : Request) → c < z.cards → (b : Bool)
-        → let p = cond b (resent (memo_of s c).request w (memo_of s c).answer, s)
+        → let p = cond b (resent (memo_of s c).last w, s)
         (noted s c t w (served z s.lock c w)) in
         P p.0 p.1.lock (cond b None (cond (accepted (served z s.lock c w).0) (Some w) None))
-    by_toggle w lt true = none (resent (memo_of s c).request w (memo_of s c).answer)
+    by_toggle w lt true = none (resent (memo_of s c).last w)
     by_toggle w lt false = judges w lt
 
     by_word : c < z.cards → (r : Result Request DoorFault)

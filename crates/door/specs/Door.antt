@@ -2,7 +2,6 @@
 use Rattle.std.specs.Prelude.{ℕ, Bool, true, false, cond, List, [], ◌∷◌, replicate, Some, None, Ok, Err, Option}
 use Rattle.std.specs.Prelude.{Result, ◌==◌, nat_lt, slice_index_or, slice_set}
 use Rattle.stages.specs.declared.answer.Answer.{Answer}
-use Rattle.stages.specs.declared.answer.Answer.TheVariants.{Done}
 use Rattle.stages.specs.declared.stage.Mode.{Mode}
 use Rattle.stages.specs.declared.stage.Mode.TheVariants.{Read, Write}
 use Rattle.lock.specs.declared.fault.LockFault.{LockFault}
@@ -13,6 +12,7 @@ use Rattle.door.specs.declared.fault.DoorFault.TheVariants.{Malformed, Differs, 
 use Rattle.door.specs.declared.request.Request.{Request}
 use Rattle.door.specs.declared.request.Request.TheVariants.{Enter, Leave, Add, Show}
 use Rattle.door.specs.declared.request.Memo.{Memo}
+use Rattle.door.specs.declared.request.Remembered.{Remembered}
 use Rattle.door.specs.declared.call.Call.{Call}
 use Rattle.door.specs.declared.call.Call.TheVariants as call
 
@@ -27,7 +27,7 @@ Reply = Result Answer DoorFault × DoorState
 
 -- what is remembered of a card on a new board: toggle 1, and a request that equals none
 abbrev pub new_memo : Memo
-new_memo = record { toggle = 1; request = None; answer = Ok Done }
+new_memo = record { toggle = 1; last = None }
 
 -- a board newly set up
 unfoldable pub new_door : DoorState
@@ -35,7 +35,7 @@ new_door = record { lock = new_lock; memos = replicate 8 new_memo }
 
 -- what a place past the last card would hold
 abbrev pub no_memo : Memo
-no_memo = record { toggle = 0; request = None; answer = Ok Done }
+no_memo = record { toggle = 0; last = None }
 
 -- what is remembered of a card
 abbrev pub memo_of : DoorState → ℕ → Memo
@@ -86,9 +86,9 @@ told (Ok r) = Ok r
 told (Err f) = Err (Lock f)
 
 -- the answer to a request with the toggle of the card's last: the remembered one if it is a resend
-abbrev pub resent : Option Request → Request → Result Answer LockFault → Result Answer DoorFault
-resent None w a = Err Differs
-resent (Some v) w a = cond (same v w) (told a) (Err Differs)
+abbrev pub resent : Option Remembered → Request → Result Answer DoorFault
+resent None w = Err Differs
+resent (Some l) w = cond (same l.request w) (told l.answer) (Err Differs)
 
 -- what the lock does on a request
 abbrev pub served : Size → LockState → ℕ → Request → Turn
@@ -101,14 +101,17 @@ served z s c (Show k) = shown z s c k
 abbrev pub noted : DoorState → ℕ → ℕ → Request → Turn → Reply
 noted s c t w p = (
   told p.0,
-  record { lock = p.1; memos = slice_set s.memos c (record { toggle = t; request = Some w; answer = p.0 }) },
+  record {
+    lock = p.1;
+    memos = slice_set s.memos c (record { toggle = t; last = Some (record { request = w; answer = p.0 }) });
+  },
 )
 
 -- a request of its form, or not, by a card that there is
 abbrev pub judged : Size → DoorState → ℕ → ℕ → Result Request DoorFault → Reply
 judged z s c t (Ok w) =
     cond ((memo_of s c).toggle == t)
-    (resent (memo_of s c).request w (memo_of s c).answer, s)
+    (resent (memo_of s c).last w, s)
     (noted s c t w (served z s.lock c w))
 judged z s c t (Err e) = (Err e, s)
 

@@ -52,11 +52,17 @@ pub enum Request {
     Show { counter: u16 },
 }
 
-// What the door remembers of a card: its last request that was neither malformed nor a resend, and the answer. On a
-// new board the toggle is 1 and there is no request, so that no request is taken for a resend.
+// A request that the lock was asked, and what it answered.
+#[derive(Clone, Copy)]
+pub struct Remembered {
+    pub request: Request,
+    pub answer: Result<Answer, LockFault>,
+}
+
+// What the door remembers of a card: the toggle of its last request that was neither malformed nor a resend, and that
+// request. On a new board the toggle is 1 and there is no request, so that no request is taken for a resend.
 #[derive(Clone, Copy)]
 pub struct Memo {
     pub toggle: u16,
-    pub request: Option<Request>,
-    pub answer: Result<Answer, LockFault>,
+    pub last: Option<Remembered>,
 }

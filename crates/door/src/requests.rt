@@ -6,7 +6,7 @@ ghost use Rattle.lock.specs.Locks.{lock_state};
 
 use crate::door::Door;
 use crate::fault::DoorFault;
-use crate::request::{Kind, Memo, Request};
+use crate::request::{Kind, Memo, Remembered, Request};
 use lock::fault::LockFault;
 use memory::memory::Memory;
 use stages::answer::Answer;
@@ -38,10 +38,10 @@ fn understand(toggle: u16, kind: u16, first: u16, second: u16) -> Result<Request
 impl Memo {
     // The answer to a request with the toggle of the last one: the remembered answer, if it is the same request.
     fn resend(self, request: Request) -> Result<Answer, DoorFault>
-        ensures { result ≡ resent self.request request self.answer }
+        ensures { result ≡ resent self.last request }
     {
-        match self.request {
-            Some(last) if last == request => Ok(self.answer?),
+        match self.last {
+            Some(last) if last.request == request => Ok(last.answer?),
             _ => Err(DoorFault::Differs),
         }
     }
@@ -92,8 +92,7 @@ impl<M: Memory> Door<M> {
         let answer = self.serve(card, request);
         self.memos[card] = Memo {
             toggle,
-            request: Some(request),
-            answer,
+            last: Some(Remembered { request, answer }),
         };
         Ok(answer?)
     }

@@ -9,7 +9,6 @@ use crate::request::Memo;
 use lock::lock::Lock;
 use lock::sizes::{Counts, Sizes};
 use memory::memory::Memory;
-use stages::answer::Answer;
 
 // A card's memo on a new board: toggle 1, with no request, so that none equals it.
 fn blank() -> Memo
@@ -17,8 +16,7 @@ fn blank() -> Memo
 {
     Memo {
         toggle: 1,
-        request: None,
-        answer: Ok(Answer::Done),
+        last: None,
     }
 }
 
