@@ -1,2 +1,2 @@
+pub mod Cards
 pub mod Lines
-pub mod Tables

@@ -1,34 +1,12 @@
--- Turns of the loops of the line call.
-use Rattle.std.proofs.Common.{◌≡◌, ℕ, zero, suc, ◌+◌, ◌-◌, ◌<◌, ◌≤◌, true, false, cond, List, [], ◌∷◌, ◌++◌, length}
-use Rattle.std.proofs.Common.{get_or, take, drop, set, replicate, sym, refl, ap, ◌∙◌, append_assoc, append-nil}
+-- Turns of the loop of the line call.
+use Rattle.std.proofs.Common.{◌≡◌, ℕ, zero, suc, ◌+◌, ◌-◌, ◌<◌, ◌≤◌, List, [], ◌∷◌, ◌++◌, length}
+use Rattle.std.proofs.Common.{take, drop, set, replicate, sym, refl, ap, ◌∙◌, append_assoc, append-nil}
 use Rattle.std.proofs.Common.{add-one, arith, length-set, drop-cons}
 use native.Mathlib.Numerals.{unary_clauses}
-use Rattle.std.proofs.lemmas.List.{at_drop_more, at_drop_all, take_more_set, drop-set-lt, take-append-drop}
+use Rattle.std.proofs.lemmas.List.{take_more_set, drop-set-lt, take-append-drop}
 use Rattle.std.proofs.lemmas.List.{length-take-le}
-use Rattle.stages.specs.declared.stage.Card.{Card}
 use Rattle.memory.specs.Meaning.{Meaning}
-use Rattle.lock.specs.Lock.{idle_card}
-use Rattle.lock.specs.Lines.{points, has_ahead, leads, line_link, first_link, behind, walk, placed}
-
--- one card of the search for a card ahead
-pub ahead_turn : (m : Meaning) (cs : List Card) (k i : ℕ) → length cs ≡ 8 → i < 8
-    → has_ahead m (drop i cs) k ≡ cond (points m (get_or cs i idle_card).stage k) true (has_ahead m (drop (i + 1) cs) k)
-ahead_turn m cs k i l lt = at_drop_more (λ l. has_ahead m l k) cs i idle_card (omega arith)
-
--- after the last card of the search for a card ahead
-pub ahead_end : (m : Meaning) (cs : List Card) (k i : ℕ) → length cs ≡ 8 → 8 ≤ i → has_ahead m (drop i cs) k ≡ false
-ahead_end m cs k i l le = at_drop_all (λ l. has_ahead m l k) cs i (omega arith)
-
--- one card of the search for the first in line
-pub first_turn : (m : Meaning) (cs : List Card) (i : ℕ) → length cs ≡ 8 → i < 8
-    → first_link m cs (drop i cs)
-    ≡ cond (leads m cs (get_or cs i idle_card).stage) (line_link (get_or cs i idle_card).stage)
-    (first_link m cs (drop (i + 1) cs))
-first_turn m cs i l lt = at_drop_more (λ l. first_link m cs l) cs i idle_card (omega arith)
-
--- after the last card of the search for the first in line
-pub first_end : (m : Meaning) (cs : List Card) (i : ℕ) → length cs ≡ 8 → 8 ≤ i → first_link m cs (drop i cs) ≡ 0
-first_end m cs i l le = at_drop_all (λ l. first_link m cs l) cs i (omega arith)
+use Rattle.lock.specs.Lines.{behind, walk, placed}
 
 -- the place so far: k nodes of the line are in it, the rest is 0, and the line goes on at the link
 pub record Filling (m : Meaning) (line : List ℕ) (k link : ℕ) (place : List ℕ) : Type 0 where

@@ -157,13 +157,7 @@ abbrev pub free : List Card → ℕ → Bool
 free [] n = true
 free (r ∷ rs) n = cond (has_node r.stage n) false (free rs n)
 
--- one store: a refusal passes up
-abbrev pub stored : Meaning → ℕ → ℕ → ℕ → Result (Unit {0}) LockFault × Meaning
-stored m c x v =
-    let o = performed m (call.Store c x v) in
-    (elim o.answer [ Ok u ↦ Ok tt | Err f ↦ Err (Memory f) ], o.after)
-
--- stores of one card in turn, up to the first that is refused
+-- stores of one card in turn, up to the first that is refused, which passes up
 abbrev pub stores : ℕ → List (ℕ × ℕ) → Meaning → Result (Unit {0}) LockFault × Meaning
 stores c [] m = (Ok tt, m)
 stores c (xv ∷ more) m =

@@ -6,7 +6,7 @@ ghost use Rattle.lock.specs.Locks.{lock_state, size_of};
 use crate::advance::advance;
 use crate::fault::LockFault;
 use crate::lock::Lock;
-use crate::nodes::{fill, is_free};
+use crate::nodes::fill;
 use crate::values::NodeValues;
 use memory::call::perform;
 use memory::memory::Memory;
@@ -21,26 +21,20 @@ impl<M: Memory> Lock<M> {
             ≡ stepped (size_of self.old.sizes) (lock_state M.meaning self.old) card }
         ensures same { self.new.sizes ≡ self.old.sizes }
     {
-        if !self.sizes.has_card(card) {
-            return Err(LockFault::NoCard);
-        }
-        let Some(call) = call_of(self.sizes.nodes, card, self.table.records[card].stage) else {
-            return Err(LockFault::NotAllowed);
-        };
+        let stage = self.stage_of(card)?;
+        let call = call_of(self.sizes.nodes, card, stage).ok_or(LockFault::NotAllowed)?;
         let outcome = perform(&mut self.memory, call);
         advance(self.table.card_mut(card), outcome)
     }
 
     // Drops a card's transaction, open or doomed, and sends the card back to its begin.
+    #[tactic(auto, unfolding(memory::specs::Calls::performed))]
     pub fn abort(&mut self, card: usize) -> Result<Answer, LockFault>
         ensures moves { (result, lock_state M.meaning self.new)
             ≡ aborted (size_of self.old.sizes) (lock_state M.meaning self.old) card }
         ensures same { self.new.sizes ≡ self.old.sizes }
     {
-        if !self.sizes.has_card(card) {
-            return Err(LockFault::NoCard);
-        }
-        let stage = self.table.records[card].stage;
+        let stage = self.stage_of(card)?;
         if !has_transaction(stage) {
             return Err(LockFault::NotAllowed);
         }
@@ -55,18 +49,10 @@ impl<M: Memory> Lock<M> {
             ≡ reused (size_of self.old.sizes) (lock_state M.meaning self.old) card node values }
         ensures same { self.new.sizes ≡ self.old.sizes }
     {
-        if !self.sizes.has_card(card) {
-            return Err(LockFault::NoCard);
-        }
-        let Stage::Idle = self.table.records[card].stage else {
+        let Stage::Idle = self.stage_of(card)? else {
             return Err(LockFault::NotAllowed);
         };
-        let Some(node) = self.sizes.node(node) else {
-            return Err(LockFault::NoPlace);
-        };
-        if !is_free(&self.table.records, node) {
-            return Err(LockFault::NotFree);
-        }
+        let node = self.free_node(node)?;
         fill(&mut self.memory, card, node, values)?;
         Ok(Answer::Done)
     }

@@ -3,11 +3,12 @@ ghost use Rattle.lock.specs.Faults.{number, raised, size_number};
 
 use memory::fault::MemoryFault;
 
-// Why sizes are refused.
+// Why sizes are refused, by the number by which the refusal is known outside. There is one reason today; an enum is
+// what each layer has for its faults, and a second reason would be another variant.
 #[derive(Clone, Copy)]
 pub enum SizeFault {
     // a size is out of range
-    OutOfRange,
+    OutOfRange = 1,
 }
 
 impl SizeFault {
@@ -15,9 +16,7 @@ impl SizeFault {
     pub fn number(self) -> u16
         ensures { result ≡ size_number self }
     {
-        match self {
-            SizeFault::OutOfRange => 1,
-        }
+        self as u16
     }
 }
 
@@ -37,7 +36,7 @@ pub enum LockFault {
 }
 
 impl LockFault {
-    // The number by which a refusal is known outside.
+    // The number by which a refusal is known outside. A match says it, since a refusal of the memory keeps its fault.
     pub fn number(self) -> u16
         ensures { result ≡ number self }
     {

@@ -4,6 +4,7 @@
 mod advance;
 pub mod events;
 pub mod fault;
+mod judging;
 mod lending;
 pub mod line;
 pub mod lock;

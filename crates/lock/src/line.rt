@@ -6,25 +6,26 @@ ghost use Rattle.lock.specs.Lines.{first_link, nodes_in_line, placed};
 use crate::lock::Lock;
 use memory::memory::Memory;
 use stages::layout::{Field, cell_of, link_of};
-use stages::stage::{Card, ReaderEntry, ReaderExit, Stage, WriterEntry, WriterExit};
+use stages::stage::{ReaderEntry, ReaderExit, Stage, WriterEntry, WriterExit};
 
 // Whether a reader on its way in has joined the line.
 fn reader_joined(at: ReaderEntry) -> bool
     ensures { result ≡ reader_joined at }
 {
-    match at {
+    matches!(
+        at,
         ReaderEntry::R8
-        | ReaderEntry::R9
-        | ReaderEntry::R10
-        | ReaderEntry::R11
-        | ReaderEntry::R12 { .. }
-        | ReaderEntry::R13 { .. }
-        | ReaderEntry::R14 { .. } => true,
-        _ => false,
-    }
+            | ReaderEntry::R9
+            | ReaderEntry::R10
+            | ReaderEntry::R11
+            | ReaderEntry::R12 { .. }
+            | ReaderEntry::R13 { .. }
+            | ReaderEntry::R14 { .. }
+    )
 }
 
-// The link of a card's node in line, 0 where the card is not in line.
+// The link of a card's node in line, 0 where the card is not in line. A link may be any number that a cell holds, and 0
+// is the memory's own form of nobody, so it stays a number and no Option.
 fn line_link(stage: Stage) -> u16
     ensures { result ≡ line_link stage }
 {
@@ -38,8 +39,8 @@ fn line_link(stage: Stage) -> u16
         Stage::WriterLeaves {
             at: WriterExit::X5 { .. },
             ..
-        } => 0,
-        Stage::ReaderLeaves {
+        }
+        | Stage::ReaderLeaves {
             at: ReaderExit::Y8 { .. },
             ..
         } => 0,
@@ -48,57 +49,52 @@ fn line_link(stage: Stage) -> u16
     }
 }
 
-// The link that stands in the next of the node that a link names.
-fn behind<M: Memory>(memory: &M, link: u16) -> u16
-    ensures { result ≡ behind (M.meaning memory.now) link }
-{
-    match memory.look(cell_of(link, Field::Next)) {
-        Ok(next) => next,
-        Err(_) => 0,
-    }
-}
-
-// Whether a card is in line, on a node whose next is the link.
-fn points_to<M: Memory>(memory: &M, stage: Stage, link: u16) -> bool
-    ensures { result ≡ points (M.meaning memory.now) stage link }
-{
-    let here = line_link(stage);
-    here != 0 && behind(memory, here) == link
-}
-
-// Whether some card in line points to the link.
-fn has_ahead<M: Memory>(memory: &M, cards: &[Card; 8], link: u16) -> bool
-    ensures { result ≡ has_ahead (M.meaning memory.now) cards.now link }
-{
-    for card in cards {
-        if points_to(memory, card.stage, link) {
-            return true;
-        }
-    }
-    false
-}
-
-// Whether a card is in line with nobody ahead of it.
-fn leads<M: Memory>(memory: &M, cards: &[Card; 8], stage: Stage) -> bool
-    ensures { result ≡ leads (M.meaning memory.now) cards.now stage }
-{
-    let link = line_link(stage);
-    link != 0 && !has_ahead(memory, cards, link)
-}
-
-// The link of the first in line; 0 where the line is empty.
-fn first_link<M: Memory>(memory: &M, cards: &[Card; 8]) -> u16
-    ensures { result ≡ first_link (M.meaning memory.now) cards.now cards.now }
-{
-    for card in cards {
-        if leads(memory, cards, card.stage) {
-            return line_link(card.stage);
-        }
-    }
-    0
-}
-
 impl<M: Memory> Lock<M> {
+    // The link that stands in the next of the node that a link names; a refused look finds nobody.
+    fn behind(&self, link: u16) -> u16
+        ensures { result ≡ behind (M.meaning self.now.memory) link }
+    {
+        self.memory.look(cell_of(link, Field::Next)).unwrap_or(0)
+    }
+
+    // Whether a card is in line, on a node whose next is the link.
+    fn points_to(&self, stage: Stage, link: u16) -> bool
+        ensures { result ≡ points (M.meaning self.now.memory) stage link }
+    {
+        let here = line_link(stage);
+        here != 0 && self.behind(here) == link
+    }
+
+    // Whether some card in line points to the link.
+    fn has_ahead(&self, link: u16) -> bool
+        ensures { result ≡ has_ahead (M.meaning self.now.memory) self.now.table.records link }
+    {
+        self.table
+            .records
+            .iter()
+            .any(|card| self.points_to(card.stage, link))
+    }
+
+    // Whether a card is in line with nobody ahead of it.
+    fn leads(&self, stage: Stage) -> bool
+        ensures { result ≡ leads (M.meaning self.now.memory) self.now.table.records stage }
+    {
+        let link = line_link(stage);
+        link != 0 && !self.has_ahead(link)
+    }
+
+    // The link of the first in line; 0 where the line is empty.
+    fn first_link(&self) -> u16
+        ensures { result
+            ≡ first_link (M.meaning self.now.memory) self.now.table.records self.now.table.records }
+    {
+        self.table
+            .records
+            .iter()
+            .find(|card| self.leads(card.stage))
+            .map_or(0, |card| line_link(card.stage))
+    }
+
     // Writes the nodes in line, in order, into the place, the unused numbers 0, and gives their count.
     pub fn line(&self, place: &mut [u16; 8]) -> usize
         ensures nodes { place.new
@@ -107,13 +103,14 @@ impl<M: Memory> Lock<M> {
             ≡ length (nodes_in_line (M.meaning self.now.memory) self.now.table.records) }
     {
         *place = [0; 8];
-        let mut link = first_link(&self.memory, &self.table.records);
-        let mut count = 0;
-        while count < 8 && link != 0 {
-            place[count] = link - 1;
-            link = behind(&self.memory, link);
-            count += 1;
+        let mut link = self.first_link();
+        for (count, slot) in place.iter_mut().enumerate() {
+            if link == 0 {
+                return count;
+            }
+            *slot = link - 1;
+            link = self.behind(link);
         }
-        count
+        place.len()
     }
 }

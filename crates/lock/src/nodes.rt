@@ -1,15 +1,16 @@
-// Which nodes are free, and what is stored in the cells of one that is taken.
+// Which node a card has, and what is stored in the cells of one that is taken. The stores take the memory and no lock: of
+// a lock they would have to promise that its sizes and records stay too.
 ghost use Rattle.std.specs.Prelude.{◌≡◌};
-ghost use Rattle.lock.specs.Lock.{has_node, free, stored, stores, entry_stores, reuse_stores, first_stage};
+ghost use Rattle.lock.specs.Lock.{has_node, stores, entry_stores, reuse_stores, first_stage};
 
 use crate::fault::LockFault;
 use crate::values::NodeValues;
 use memory::memory::Memory;
 use stages::layout::{Field, State, cell_of, link_of};
-use stages::stage::{Card, Mode, ReaderEntry, Stage, WriterEntry};
+use stages::stage::{Mode, ReaderEntry, Stage, WriterEntry};
 
 // Whether a card at a stage has a node.
-fn has_node(stage: Stage, node: u8) -> bool
+pub(crate) fn has_node(stage: Stage, node: u8) -> bool
     ensures { result ≡ has_node stage node }
 {
     match stage {
@@ -21,18 +22,6 @@ fn has_node(stage: Stage, node: u8) -> bool
         | Stage::WriterLeaves { node: held, .. }
         | Stage::ReaderLeaves { node: held, .. } => held == node,
     }
-}
-
-// Whether no card has a node.
-pub(crate) fn is_free(cards: &[Card; 8], node: u8) -> bool
-    ensures { result ≡ free cards.now node }
-{
-    for card in cards {
-        if has_node(card.stage, node) {
-            return false;
-        }
-    }
-    true
 }
 
 // The first row of an entry.
@@ -51,15 +40,9 @@ pub(crate) fn first_stage(node: u8, mode: Mode) -> Stage
     }
 }
 
-// One store.
-fn store<M: Memory>(memory: &mut M, card: usize, cell: usize, value: u16) -> Result<(), LockFault>
-    ensures { (result, M.meaning memory.new) ≡ stored (M.meaning memory.old) card cell value }
-{
-    Ok(memory.store(card, cell, value)?)
-}
-
 // Makes a node ready to join the line: a reader's or a writer's, to wait, with nobody behind; a reader's with nobody
 // ahead either.
+#[tactic(auto, unfolding(memory::specs::Calls::performed))]
 pub(crate) fn prepare<M: Memory>(
     memory: &mut M,
     card: usize,
@@ -74,16 +57,17 @@ pub(crate) fn prepare<M: Memory>(
         Mode::Read => State::Reader,
         Mode::Write => State::Writer,
     };
-    store(memory, card, cell_of(me, Field::State), state as u16)?;
-    store(memory, card, cell_of(me, Field::Spin), 1)?;
-    store(memory, card, cell_of(me, Field::Next), 0)?;
-    match mode {
-        Mode::Read => store(memory, card, cell_of(me, Field::Prev), 0),
-        Mode::Write => Ok(()),
+    memory.store(card, cell_of(me, Field::State), state as u16)?;
+    memory.store(card, cell_of(me, Field::Spin), 1)?;
+    memory.store(card, cell_of(me, Field::Next), 0)?;
+    if let Mode::Read = mode {
+        memory.store(card, cell_of(me, Field::Prev), 0)?;
     }
+    Ok(())
 }
 
 // Stores any four values in a node's cells.
+#[tactic(auto, unfolding(memory::specs::Calls::performed))]
 pub(crate) fn fill<M: Memory>(
     memory: &mut M,
     card: usize,
@@ -94,8 +78,9 @@ pub(crate) fn fill<M: Memory>(
         ≡ stores card (reuse_stores node values) (M.meaning memory.old) }
 {
     let me = link_of(node);
-    store(memory, card, cell_of(me, Field::Next), values.next)?;
-    store(memory, card, cell_of(me, Field::Prev), values.prev)?;
-    store(memory, card, cell_of(me, Field::State), values.state)?;
-    store(memory, card, cell_of(me, Field::Spin), values.spin)
+    memory.store(card, cell_of(me, Field::Next), values.next)?;
+    memory.store(card, cell_of(me, Field::Prev), values.prev)?;
+    memory.store(card, cell_of(me, Field::State), values.state)?;
+    memory.store(card, cell_of(me, Field::Spin), values.spin)?;
+    Ok(())
 }

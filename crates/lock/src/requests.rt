@@ -1,11 +1,13 @@
 // What a card may ask of the lock: to enter, to leave, to add to a counter and to be shown one.
+//
+// Each call promises that the sizes stay, since no invariant of a lock can compare it with what it was before.
 ghost use Rattle.std.specs.Prelude.{◌≡◌};
 ghost use Rattle.lock.specs.Lock.{entered, left, added, shown};
 ghost use Rattle.lock.specs.Locks.{lock_state, size_of};
 
 use crate::fault::LockFault;
 use crate::lock::Lock;
-use crate::nodes::{first_stage, is_free, prepare};
+use crate::nodes::{first_stage, prepare};
 use memory::memory::Memory;
 use stages::answer::Answer;
 use stages::layout::counter_cell;
@@ -18,18 +20,10 @@ impl<M: Memory> Lock<M> {
             ≡ entered (size_of self.old.sizes) (lock_state M.meaning self.old) card mode node }
         ensures same { self.new.sizes ≡ self.old.sizes }
     {
-        if !self.sizes.has_card(card) {
-            return Err(LockFault::NoCard);
-        }
-        let Stage::Idle = self.table.records[card].stage else {
+        let Stage::Idle = self.stage_of(card)? else {
             return Err(LockFault::NotAllowed);
         };
-        let Some(node) = self.sizes.node(node) else {
-            return Err(LockFault::NoPlace);
-        };
-        if !is_free(&self.table.records, node) {
-            return Err(LockFault::NotFree);
-        }
+        let node = self.free_node(node)?;
         prepare(&mut self.memory, card, node, mode)?;
         self.table.card_mut(card).stage = first_stage(node, mode);
         Ok(Answer::Done)
@@ -41,10 +35,7 @@ impl<M: Memory> Lock<M> {
             ≡ left (size_of self.old.sizes) (lock_state M.meaning self.old) card }
         ensures same { self.new.sizes ≡ self.old.sizes }
     {
-        if !self.sizes.has_card(card) {
-            return Err(LockFault::NoCard);
-        }
-        let Stage::Inside { node, mode } = self.table.records[card].stage else {
+        let Stage::Inside { node, mode } = self.stage_of(card)? else {
             return Err(LockFault::NotAllowed);
         };
         self.table.card_mut(card).stage = match mode {
@@ -67,39 +58,30 @@ impl<M: Memory> Lock<M> {
             card counter amount }
         ensures same { self.new.sizes ≡ self.old.sizes }
     {
-        if !self.sizes.has_card(card) {
-            return Err(LockFault::NoCard);
-        }
         let Stage::Inside {
             node,
             mode: Mode::Write,
-        } = self.table.records[card].stage
+        } = self.stage_of(card)?
         else {
             return Err(LockFault::NotAllowed);
         };
-        let Some(counter) = self.sizes.counter(counter) else {
-            return Err(LockFault::NoPlace);
-        };
+        let counter = self.sizes.counter(counter)?;
         let at = Addition::A1 { counter, amount };
         self.table.card_mut(card).stage = Stage::Adds { node, at };
         Ok(Answer::Done)
     }
 
     // One load of a counter, by a card inside.
+    #[tactic(auto, unfolding(memory::specs::Calls::performed))]
     pub fn show(&mut self, card: usize, counter: u16) -> Result<Answer, LockFault>
         ensures moves { (result, lock_state M.meaning self.new)
             ≡ shown (size_of self.old.sizes) (lock_state M.meaning self.old) card counter }
         ensures same { self.new.sizes ≡ self.old.sizes }
     {
-        if !self.sizes.has_card(card) {
-            return Err(LockFault::NoCard);
-        }
-        let Stage::Inside { .. } = self.table.records[card].stage else {
+        let Stage::Inside { .. } = self.stage_of(card)? else {
             return Err(LockFault::NotAllowed);
         };
-        let Some(counter) = self.sizes.counter(counter) else {
-            return Err(LockFault::NoPlace);
-        };
+        let counter = self.sizes.counter(counter)?;
         let cell = counter_cell(self.sizes.nodes, counter);
         let count = self.memory.load(card, cell)?;
         Ok(Answer::Count { count })

@@ -1,10 +1,11 @@
 // The judgement of sizes, and what they have.
-ghost use Rattle.std.specs.Prelude.{◌≡◌, cond, ltb, if◌then◌else◌, Some, None, Ok, Err, nat_lt};
+ghost use Rattle.std.specs.Prelude.{◌≡◌, cond, Ok, Err, nat_lt};
 ghost use Rattle.lock.specs.Locks.{sizes_judged};
 ghost use Rattle.lock.specs.Lock.{sized, within};
 ghost use Rattle.lock.specs.declared.fault.SizeFault.TheVariants.{OutOfRange};
+ghost use Rattle.lock.specs.declared.fault.LockFault.TheVariants.{NoPlace};
 
-use crate::fault::SizeFault;
+use crate::fault::{LockFault, SizeFault};
 use crate::sizes::{Counts, Sizes};
 
 const MOST_CARDS: u8 = 8;
@@ -23,11 +24,14 @@ fn judged(most: u8, asked: u16) -> Result<u8, SizeFault>
     }
 }
 
-// A number, where it is below the count.
-fn below(count: u8, number: u16) -> Option<u8>
-    ensures { result ≡ (if ltb number count then Some number else None) }
+// The number of a node or a counter, where there are more of them.
+fn below(count: u8, number: u16) -> Result<u8, LockFault>
+    ensures { result ≡ cond (nat_lt number count) (Ok number) (Err NoPlace) }
 {
-    u8::try_from(number).ok().filter(|place| *place < count)
+    u8::try_from(number)
+        .ok()
+        .filter(|place| *place < count)
+        .ok_or(LockFault::NoPlace)
 }
 
 impl Sizes {
@@ -50,15 +54,15 @@ impl Sizes {
     }
 
     // The node of a number, where there is one.
-    pub(crate) fn node(self, node: u16) -> Option<u8>
-        ensures { result ≡ (if ltb node self.nodes then Some node else None) }
+    pub(crate) fn node(self, node: u16) -> Result<u8, LockFault>
+        ensures { result ≡ cond (nat_lt node self.nodes) (Ok node) (Err NoPlace) }
     {
         below(self.nodes, node)
     }
 
     // The counter of a number, where there is one.
-    pub(crate) fn counter(self, counter: u16) -> Option<u8>
-        ensures { result ≡ (if ltb counter self.counters then Some counter else None) }
+    pub(crate) fn counter(self, counter: u16) -> Result<u8, LockFault>
+        ensures { result ≡ cond (nat_lt counter self.counters) (Ok counter) (Err NoPlace) }
     {
         below(self.counters, counter)
     }

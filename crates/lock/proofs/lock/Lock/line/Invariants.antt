@@ -1,4 +1,3 @@
-use Rattle.std.proofs.Common.{◌-◌}
 use Rattle.lock.specs.Lines.{nodes_in_line}
 use Rattle.lock.proofs.Lines.{Filling}
 use Rattle.lock.proofs.lock.Lock.line.Given as goal
@@ -8,7 +7,3 @@ abbrev pub invariant-loop-count : goal.invariant-loop-count
 invariant-loop-count g l =
     let m = g.M.Memory.meaning l.self.memory in
     Filling m (nodes_in_line m l.self.table.records) l.count l.link l.place
-
--- places left
-abbrev pub decreases-loop-count : goal.decreases-loop-count
-decreases-loop-count g l = 8 - l.count
