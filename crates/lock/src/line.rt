@@ -39,8 +39,8 @@ fn line_link(stage: Stage) -> u16
         Stage::WriterLeaves {
             at: WriterExit::X5 { .. },
             ..
-        } => 0,
-        Stage::ReaderLeaves {
+        }
+        | Stage::ReaderLeaves {
             at: ReaderExit::Y8 { .. },
             ..
         } => 0,

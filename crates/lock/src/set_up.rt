@@ -11,11 +11,10 @@ use stages::stage::{Card, Stage};
 
 impl<M: Memory> Lock<M> {
     // Clears the memory and gives every card an idle record.
-    pub fn set_up(memory: M, sizes: Sizes) -> Lock<M>
+    pub fn set_up(mut memory: M, sizes: Sizes) -> Lock<M>
         ensures fresh { lock_state M.meaning result ≡ new_lock }
         ensures same { result.sizes ≡ sizes }
     {
-        let mut memory = memory;
         memory.clear();
         let idle = Card { stage: Stage::Idle };
         let table = Table { records: [idle; 8] };

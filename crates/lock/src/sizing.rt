@@ -24,8 +24,8 @@ fn judged(most: u8, asked: u16) -> Result<u8, SizeFault>
     }
 }
 
-// A number of a node or a counter, where there are more of them than that.
-fn placed(count: u8, number: u16) -> Result<u8, LockFault>
+// The number of a node or a counter, where there are more of them.
+fn below(count: u8, number: u16) -> Result<u8, LockFault>
     ensures { result ≡ cond (nat_lt number count) (Ok number) (Err NoPlace) }
 {
     u8::try_from(number)
@@ -57,14 +57,14 @@ impl Sizes {
     pub(crate) fn node(self, node: u16) -> Result<u8, LockFault>
         ensures { result ≡ cond (nat_lt node self.nodes) (Ok node) (Err NoPlace) }
     {
-        placed(self.nodes, node)
+        below(self.nodes, node)
     }
 
     // The counter of a number, where there is one.
     pub(crate) fn counter(self, counter: u16) -> Result<u8, LockFault>
         ensures { result ≡ cond (nat_lt counter self.counters) (Ok counter) (Err NoPlace) }
     {
-        placed(self.counters, counter)
+        below(self.counters, counter)
     }
 
     pub fn cards(self) -> u8

@@ -74,7 +74,9 @@ pub enum ReaderExit {
     Y8 { nxt: u16 },
 }
 
-// A card's stage, with the numbers that it keeps: pred and nxt are links, ps and ss the states read of them.
+// A card's stage, with the numbers that it keeps: pred and nxt are links, ps and ss the states read of them. Each is
+// what a cell held, so it may be any number. Where no state was read, ps or ss is 0: pred and nxt say already that it is
+// not looked at, and an Option would say so twice.
 #[derive(Clone, Copy)]
 pub enum Stage {
     Idle,
