@@ -2,7 +2,7 @@
 use door::fault::DoorFault;
 use stages::answer::Answer;
 
-// The answer as a number: its kind above, what it carries below.
+// The answer as a number, which is what C can take: its kind above, what it carries below.
 fn code(answer: Result<Answer, DoorFault>) -> u64 {
     match answer {
         Ok(Answer::Done) => 1 << 16,

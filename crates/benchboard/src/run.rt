@@ -8,7 +8,8 @@ use lock::sizes::Counts;
 use memory::memory::Memory;
 use std::alloc::{AllocError, Global};
 
-// The digest of the answers to all calls on a board newly set up on the memory.
+// The digest of the answers to all calls on a board newly set up on the memory; 0 where it is refused, since the caller
+// in C takes a number and no Result.
 fn digest_on<M: Memory + Drop>(memory: M, calls: &[Call]) -> u64 {
     let most = Counts {
         cards: 8,
@@ -40,8 +41,5 @@ fn repeated(heap: Global, codes: &[u16], times: u32) -> Result<u64, AllocError> 
 // Decodes the calls once and makes them all, each time on a new board; the digests' sum, and 0 at want of memory.
 #[unsafe(no_mangle)]
 pub extern "C" fn benchboard_deferred(heap: Global, codes: &[u16], times: u32) -> u64 {
-    match repeated(heap, codes, times) {
-        Ok(sum) => sum,
-        Err(_) => 0,
-    }
+    repeated(heap, codes, times).unwrap_or(0)
 }

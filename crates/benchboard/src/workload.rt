@@ -1,4 +1,5 @@
-// Calls coded as numbers, seven to a call: what it is, its card, and five numbers more, 0 where unused.
+// Calls coded as numbers, seven to a call: what it is, its card, and five numbers more, 0 where unused. They come from
+// C, which has no enum of ours, so what a call is stays a number up to here.
 use door::call::Call;
 use lock::values::NodeValues;
 use std::alloc::{AllocError, Global};

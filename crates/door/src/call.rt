@@ -1,6 +1,7 @@
 use lock::values::NodeValues;
 
-// A call of the board: a request of five numbers, or an event that is no request.
+// A call of the board: a request of five numbers, or an event that is no request. It is a value and no closure: the
+// promise speaks of lists of calls, and a book is fed the same ones.
 #[derive(Clone, Copy)]
 pub enum Call {
     Request {

@@ -1,4 +1,6 @@
 // The other calls of the board, every call as a value, and runs of them.
+//
+// Each promises that the sizes stay: no invariant of a door can compare it with what it was before.
 ghost use Rattle.std.specs.Prelude.{◌≡◌, length};
 ghost use Rattle.lock.specs.Lock.{stepped, aborted, reused};
 ghost use Rattle.lock.specs.Lines.{nodes_in_line, placed};
@@ -45,7 +47,8 @@ impl<M: Memory> Door<M> {
         Ok(self.lock.reuse(usize::from(card), node, values)?)
     }
 
-    // Writes the nodes in line, in order, into the place, the unused numbers 0, and gives their count.
+    // Writes the nodes in line, in order, into the place, the unused numbers 0, and gives their count. It is the
+    // caller's place of eight and no Vec, since a board has no heap.
     pub fn line(&self, place: &mut [u16; 8]) -> usize
         ensures nodes { place.new
             ≡ placed (nodes_in_line (door_state M.meaning self.now).lock.meaning

@@ -22,7 +22,7 @@ pub enum DoorFault {
 }
 
 impl DoorFault {
-    // The number by which a refusal is known outside.
+    // The number by which a refusal is known outside. A match says it, since a refusal of the lock has the lock's own.
     pub fn number(self) -> u16
         ensures { result ≡ number self }
     {

@@ -63,8 +63,9 @@ impl<M: Memory> Door<M> {
         }
     }
 
-    // Judges a request. One with the toggle of the card's last is a resend: it gets that answer and nothing happens,
-    // or it differs and is refused. Any other goes to the lock and is remembered with its answer, a refusal too.
+    // Judges a request, which comes from outside as five numbers. One with the toggle of the card's last is a resend:
+    // it gets that answer and nothing happens, or it differs and is refused. Any other goes to the lock and is
+    // remembered with its answer, a refusal too.
     pub fn request(
         &mut self,
         card: u16,

@@ -45,6 +45,7 @@ fn main(rt: HostRuntime) -> anyhow::Result<()> {
     rt.stdin()
         .take(runner::read_limit())
         .read_to_end(&mut text)?;
+    // The two boards have two types, and a run is proved for each: no dyn stands between a board and its memory.
     let out = match choice {
         Choice::Deferred => runner::run(heap, Deferred::new(), text.as_slice())?,
         Choice::InPlace => runner::run(heap, InPlace::new(), text.as_slice())?,

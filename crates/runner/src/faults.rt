@@ -1,4 +1,4 @@
-// Why a schedule did not run to its end.
+// Why a schedule did not run to its end. The conversions are written out, since a derived one promises nothing.
 ghost use Rattle.std.specs.Prelude.{◌≡◌};
 ghost use Rattle.runner.specs.declared.faults.RunFault.TheVariants.{Memory, Form, Sizes};
 

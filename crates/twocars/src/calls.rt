@@ -1,4 +1,4 @@
-// The calls that both memories get.
+// The calls that both memories get. Those of the counter have a name each, so that the list reads as a story.
 ghost use Rattle.std.specs.Prelude.{◌≡◌};
 ghost use Rattle.memory.specs.declared.call.MemoryCall.TheVariants.{Read, Write, Load};
 

@@ -17,6 +17,7 @@ fn card_name(card: usize) -> &'static str {
     if card == NORTH { "North" } else { "South" }
 }
 
+// One line for each call; a call is a value here, so nothing is left to choose but its words.
 fn print_call(rt: HostRuntime, call: MemoryCall) -> io::Result<()> {
     match call {
         MemoryCall::Clear => println!(rt; "The memory is cleared."),

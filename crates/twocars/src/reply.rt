@@ -1,4 +1,4 @@
-// What a memory's answer says.
+// What a memory's answer says. A type of our own and no Result, since only std may say how a Result is printed.
 ghost use Rattle.std.specs.Prelude.{◌≡◌, Some};
 ghost use Rattle.twocars.specs.Replies.{reply_text, replied};
 
