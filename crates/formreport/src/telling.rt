@@ -9,6 +9,8 @@ use std::alloc::{AllocError, Global};
 use textline::bad_line;
 
 // Appends to `out` what is understood of `text`, up to its end or to the first line at fault.
+// The calls are those of `formtext::read`, but each event is told before the next line is read: one function for both
+// would take a closure that also writes, and the clauses of what it leaves are longer than these lines.
 fn tell(heap: Global, out: &mut String, text: &[u8]) -> Result<(), ReadFault>
     ensures { Tells (string_bytes out.old) text.now (string_bytes out.new) result }
 {
