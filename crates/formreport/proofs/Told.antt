@@ -47,12 +47,6 @@ pub fails : (start bs now told : List ℕ) (r : Result (Unit {0}) ReadFault) (f 
 fails start bs now told (Ok u) f e is b = absurd e
 fails start bs now told (Err g) f e is b = subst (λ h. Tells start bs now (Err h)) (sym e) (told, is, b)
 
--- want of memory is passed on
-pub fails_memory : (start bs now : List ℕ) (r : Result (Unit {0}) ReadFault) → IsErrAnd r (λ y. y ≡ Memory)
-    → Tells start bs now r
-fails_memory start bs now (Ok u) e = absurd e
-fails_memory start bs now (Err g) e = subst (λ h. Tells start bs now (Err h)) (sym e) tt
-
 -- nothing is told of a text whose size section is at fault
 pub before_sizes : (bs : List ℕ) (f : FormFault) → TakesSizes bs (Err f) → Before bs [] f
 before_sizes bs TooLong t = long t
@@ -160,4 +154,4 @@ accounts bs start now out last (Ok u) none t v is =
     (accepted t.0 t.1 t.2 t.3)
 accounts bs start now out last (Err (Form f)) none t v is =
     subst (Accounts bs) (sym (is ∙ (λ i. (t.1 ∙ ap (λ l. l ++ t.0) none) i ++ v i))) (refused t.0 f t.2)
-accounts bs start now out last (Err Memory) none t v is = absurd v
+accounts bs start now out last (Err (Memory e)) none t v is = absurd v

@@ -8,7 +8,8 @@ use Rattle.schedule.specs.Schedules.{front_of, text_of, Renders, RendersNone, St
 use Rattle.schedule.specs.Sections.{SizeSection}
 use Rattle.formtext.specs.declared.faults.ReadFault.{ReadFault}
 use Rattle.formtext.specs.declared.faults.ReadFault.TheVariants.{Memory, Form}
-use Rattle.formwords.specs.Words.{sizes_line, count_line, event_lines, fault_line, whole_line}
+use Rattle.textline.specs.Faults.{bad_line}
+use Rattle.formwords.specs.Words.{sizes_line, count_line, event_lines, whole_line}
 
 -- `told` is what is understood of bs before the fault
 pub data Before (bs : List ℕ) : List ℕ → FormFault → Type 0 where
@@ -29,17 +30,17 @@ abbrev pub Tells : List ℕ → List ℕ → List ℕ → Result (Unit {0}) Read
 Tells start bs now (Ok u) =
     (s : SizeLines) × (es : List Event) × (length bs ≤ 65535) × Renders bs s es
     × (now ≡ start ++ (sizes_line s ++ (count_line (length es) ++ event_lines 6 es)))
-Tells start bs now (Err Memory) = Unit {0}
+Tells start bs now (Err (Memory e)) = Unit {0}
 Tells start bs now (Err (Form f)) = (told : List ℕ) × (now ≡ start ++ told) × Before bs told f
 
 -- `last` is the verdict that ends an account; there is none for want of memory
 abbrev pub Verdict : Result (Unit {0}) ReadFault → List ℕ → Type 0
 Verdict (Ok u) last = last ≡ whole_line
-Verdict (Err (Form f)) last = last ≡ fault_line f
-Verdict (Err Memory) last = ⊥
+Verdict (Err (Form f)) last = last ≡ bad_line f
+Verdict (Err (Memory e)) last = ⊥
 
 -- all that is printed for bs: what is understood, and then the verdict
 pub data Accounts (bs : List ℕ) : List ℕ → Type 0 where
-  refused : (told : List ℕ) (f : FormFault) → Before bs told f → Accounts bs (told ++ fault_line f)
+  refused : (told : List ℕ) (f : FormFault) → Before bs told f → Accounts bs (told ++ bad_line f)
   accepted : (s : SizeLines) (es : List Event) → length bs ≤ 65535 → Renders bs s es
       → Accounts bs ((sizes_line s ++ (count_line (length es) ++ event_lines 6 es)) ++ whole_line)

@@ -3,11 +3,14 @@ ghost use Rattle.std.specs.Prelude.{IfOk, string_bytes};
 ghost use Rattle.formreport.specs.Accounts.{Tells, Verdict, Accounts};
 
 use formtext::ReadFault;
-use formwords::{count_line, event_line, fault_line, sizes_line};
+use formwords::{count_line, event_line, sizes_line};
 use schedule::{line_of_event, take_count, take_end, take_event, take_sizes};
 use std::alloc::{AllocError, Global};
+use textline::bad_line;
 
 // Appends to `out` what is understood of `text`, up to its end or to the first line at fault.
+// The calls are those of `formtext::read`, but each event is told before the next line is read: one function for both
+// would take a closure that also writes, and the clauses of what it leaves are longer than these lines.
 fn tell(heap: Global, out: &mut String, text: &[u8]) -> Result<(), ReadFault>
     ensures { Tells (string_bytes out.old) text.now (string_bytes out.new) result }
 {
@@ -20,8 +23,7 @@ fn tell(heap: Global, out: &mut String, text: &[u8]) -> Result<(), ReadFault>
         out.push_str(event_line(heap, line_of_event(index), e)?.as_str())?;
         rest = after;
     }
-    take_end(rest, count)?;
-    Ok(())
+    Ok(take_end(rest, count)?)
 }
 
 // The verdict on a text, by how its reading ended.
@@ -30,8 +32,8 @@ fn verdict(heap: Global, end: Result<(), ReadFault>) -> Result<String, AllocErro
 {
     match end {
         Ok(()) => String::from_str(heap, "whole\n"),
-        Err(ReadFault::Form(f)) => fault_line(heap, f),
-        Err(ReadFault::Memory) => Err(AllocError),
+        Err(ReadFault::Form(f)) => bad_line(heap, f),
+        Err(ReadFault::Memory(e)) => Err(e),
     }
 }
 

@@ -16,14 +16,13 @@ text_push (x ∷ ls) l =
     ap (λ t. x ++ (10 ∷ t)) (text_push ls l) ∙ sym (append_assoc x (10 ∷ text_of ls) (l ++ (10 ∷ [])))
 
 -- the line of one event more
-pub events_more : (start out next line : List ℕ) (es : List Event) (i : ℕ) (d : Event) → i < length es
-    → out ≡ start ++ text_of (map written (take i es)) → next ≡ out ++ line
-    → line ≡ written (get_or es i d) ++ (10 ∷ [])
+pub events_more : (start out next : List ℕ) (es : List Event) (i : ℕ) (d : Event) → i < length es
+    → out ≡ start ++ text_of (map written (take i es)) → next ≡ out ++ (written (get_or es i d) ++ (10 ∷ []))
     → next ≡ start ++ text_of (map written (take (i + 1) es))
-events_more start out next line es i d lt inv pushed is =
+events_more start out next es i d lt inv pushed =
     let lines = map written (take i es) in
     pushed
-    ∙ (λ j. inv j ++ is j)
+    ∙ ap (λ l. l ++ (written (get_or es i d) ++ (10 ∷ []))) inv
     ∙ append_assoc start (text_of lines) (written (get_or es i d) ++ (10 ∷ []))
     ∙ ap (λ t. start ++ t) (sym (ap text_of (map_more written es i d lt) ∙ text_push lines (written (get_or es i d))))
 

@@ -18,7 +18,7 @@ gives_back : (bs : List ℕ) (r : Result Schedule ReadFault) → Reads bs r → 
     → Renders bs s es → length bs ≤ 65535 → GivesBack s es r
 gives_back bs (Ok v) h s es t le =
     one_rendering v.sizes s (vec_items v.events) es h.1.sound t.sound (sym h.1.text ∙ t.text)
-gives_back bs (Err Memory) h s es t le = tt
+gives_back bs (Err (Memory e)) h s es t le = tt
 gives_back bs (Err (Form TooLong)) h s es t le = omega arith
 gives_back bs (Err (Form (BadLine line))) h s es t le = h.2 s es t
 
@@ -41,8 +41,3 @@ pub fails_at : (bs : List ℕ) (r : Result Schedule ReadFault) (f : FormFault) (
 fails_at bs (Ok v) f line e is le stop none = absurd e
 fails_at bs (Err g) f line e is le stop none =
     subst (λ h. Reads bs (Err h)) (sym (e ∙ (λ i. Form (is i)))) (le, stop, none)
-
--- want of memory
-pub fails_memory : (bs : List ℕ) (r : Result Schedule ReadFault) → IsErrAnd r (λ y. y ≡ Memory) → Reads bs r
-fails_memory bs (Ok v) e = absurd e
-fails_memory bs (Err g) e = subst (λ h. Reads bs (Err h)) (sym e) tt

@@ -12,14 +12,14 @@ use Rattle.formtext.specs.declared.reading.Schedule.{Schedule}
 -- the fault names the first line at which it stops being that of a schedule
 abbrev pub Reads : List ℕ → Result Schedule ReadFault → Type 0
 Reads bs (Ok v) = (length bs ≤ 65535) × Renders bs v.sizes (vec_items v.events)
-Reads bs (Err Memory) = Unit {0}
+Reads bs (Err (Memory e)) = Unit {0}
 Reads bs (Err (Form TooLong)) = 65535 < length bs
 Reads bs (Err (Form (BadLine line))) = (length bs ≤ 65535) × StopsAt line bs × RendersNone bs
 
 -- the sizes s and the events es come back, unless memory is wanting
 abbrev pub GivesBack : SizeLines → List Event → Result Schedule ReadFault → Type 0
 GivesBack s es (Ok v) = (v.sizes ≡ s) × (vec_items v.events ≡ es)
-GivesBack s es (Err Memory) = Unit {0}
+GivesBack s es (Err (Memory e)) = Unit {0}
 GivesBack s es (Err (Form f)) = ⊥
 
 -- what the text is a rendering of is read, and every schedule whose text has at most 65,535 bytes is read back from it

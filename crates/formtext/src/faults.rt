@@ -1,5 +1,5 @@
 // Why a text was not read.
-ghost use Rattle.std.specs.Prelude.{◌≡◌};
+ghost use Rattle.std.specs.Prelude.{◌≡◌, alloc_error};
 ghost use Rattle.formtext.specs.declared.faults.ReadFault.TheVariants.{Memory, Form};
 
 use std::alloc::{AllocError, AllocFailed};
@@ -8,24 +8,24 @@ use textline::FormFault;
 #[derive(Clone, Copy, Debug)]
 pub enum ReadFault {
     // No memory for the events.
-    Memory,
+    Memory(AllocError),
     // The text is no schedule.
     Form(FormFault),
 }
 
 impl From<AllocError> for ReadFault {
-    ghost from_gives = { λ _ r. r ≡ Memory };
+    ghost from_gives = { λ e r. r ≡ Memory e };
 
-    fn from(_e: AllocError) -> ReadFault {
-        ReadFault::Memory
+    fn from(e: AllocError) -> ReadFault {
+        ReadFault::Memory(e)
     }
 }
 
 impl<T: Drop> From<AllocFailed<T>> for ReadFault {
-    ghost from_gives = { λ _ r. r ≡ Memory };
+    ghost from_gives = { λ _ r. r ≡ Memory alloc_error };
 
-    fn from(_e: AllocFailed<T>) -> ReadFault {
-        ReadFault::Memory
+    fn from(failed: AllocFailed<T>) -> ReadFault {
+        ReadFault::Memory(AllocError::from(failed))
     }
 }
 

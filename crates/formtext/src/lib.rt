@@ -1,12 +1,10 @@
 // Whole schedules: rendered to text, and read back.
 #![tactic(auto)]
 
-mod displays;
 mod faults;
 mod reading;
 mod rendering;
 
-pub use displays::EventText;
 pub use faults::ReadFault;
 pub use reading::{Schedule, read};
 pub use rendering::render;

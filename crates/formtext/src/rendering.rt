@@ -3,7 +3,6 @@ ghost use Rattle.std.specs.Prelude.{◌≡◌, IfOk, string_bytes};
 ghost use Rattle.schedule.specs.Schedules.{rendered, OneRendering};
 ghost use Rattle.formtext.specs.Heads.{head_text};
 
-use crate::displays::EventText;
 use std::alloc::{AllocError, Global};
 use textline::{Event, SizeLines};
 
@@ -20,15 +19,14 @@ fn head(heap: Global, sizes: SizeLines, count: usize) -> Result<String, AllocErr
 }
 
 // The text of a schedule; no other schedule has the same text.
+#[tactic(auto, using(schedule::proofs::Once::one_rendering))]
 pub fn render(heap: Global, sizes: SizeLines, events: &[Event]) -> Result<String, AllocError>
     ensures text { IfOk result (λ s. string_bytes s ≡ rendered sizes events.now) }
     ensures apart { OneRendering }
 {
     let mut out = head(heap, sizes, events.len())?;
     for e in events {
-        let text = EventText(*e);
-        let line = format!(in heap; "{text}\n")?;
-        out.push_str(line.as_str())?;
+        writeln!(out, "{e}")?;
     }
     Ok(out)
 }

@@ -3,8 +3,6 @@ use Rattle.std.specs.Prelude.{ℕ, ◌+◌, List, [], ◌∷◌, ◌++◌, codes
 use Rattle.textline.specs.declared.events.Event.{Event}
 use Rattle.textline.specs.declared.events.Event.TheVariants.{Read, Write, Leave, Add, Show, Step, Abort, Reuse}
 use Rattle.textline.specs.declared.events.SizeLines.{SizeLines}
-use Rattle.textline.specs.declared.faults.FormFault.{FormFault}
-use Rattle.textline.specs.Faults.{form_words}
 
 -- an event with a name before each of its numbers
 abbrev pub event_words : Event → List ℕ
@@ -46,10 +44,6 @@ event_line line e = decimal line ++ (codes " " ++ (event_words e ++ (10 ∷ []))
 abbrev pub event_lines : ℕ → List Event → List ℕ
 event_lines line [] = []
 event_lines line (e ∷ es) = event_line line e ++ event_lines (line + 1) es
-
--- the verdict on a text that is no schedule: `bad`, the line and the number of the fault
-abbrev pub fault_line : FormFault → List ℕ
-fault_line f = form_words f ++ (10 ∷ [])
 
 -- the verdict on a text that is a schedule
 abbrev pub whole_line : List ℕ

@@ -1,6 +1,6 @@
-// The lines in which the form checker says what it understood, and what it refused.
+// The lines in which the form checker says what it understood.
 #![tactic(auto)]
 
 mod words;
 
-pub use words::{Understood, count_line, event_line, fault_line, sizes_line};
+pub use words::{Understood, count_line, event_line, sizes_line};

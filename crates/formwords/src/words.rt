@@ -1,13 +1,13 @@
 // The words for what was understood.
 ghost use Rattle.std.specs.Prelude.{◌≡◌, IfOk, Some, string_bytes};
-ghost use Rattle.formwords.specs.Words.{event_words, sizes_line, count_line, event_line, fault_line};
+ghost use Rattle.formwords.specs.Words.{event_words, sizes_line, count_line, event_line};
 
 use std::alloc::{AllocError, Global};
 use std::fmt;
-use std::fmt::Write;
-use textline::{Event, FormFault, SizeLines};
+use textline::{Event, SizeLines};
 
-// An event with a name before each of its numbers.
+// An event with a name before each of its numbers. `Event` itself prints the line of a schedule, so these other words
+// are a type of their own.
 #[derive(Clone, Copy)]
 pub struct Understood(pub Event);
 
@@ -81,11 +81,4 @@ pub fn event_line(heap: Global, line: u32, e: Event) -> Result<String, AllocErro
 {
     let words = Understood(e);
     format!(in heap; "{line} {words}\n")
-}
-
-// The verdict on a text that is no schedule.
-pub fn fault_line(heap: Global, fault: FormFault) -> Result<String, AllocError>
-    ensures { IfOk result (λ s. string_bytes s ≡ fault_line fault) }
-{
-    format!(in heap; "{fault}\n")
 }

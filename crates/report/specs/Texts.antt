@@ -8,9 +8,9 @@ use Rattle.lock.specs.declared.fault.SizeFault.{SizeFault}
 use Rattle.lock.specs.declared.fault.SizeFault.TheVariants.{OutOfRange}
 use Rattle.door.specs.declared.fault.DoorFault.{DoorFault}
 use Rattle.door.specs.declared.fault.DoorFault.TheVariants.{Malformed, Differs, Lock}
-use Rattle.textline.specs.declared.faults.FormFault.{FormFault}
-use Rattle.textline.specs.Faults.{form_words}
 use Rattle.textline.specs.Numbers.{spelled}
+-- `bad`, the line and the number of a fault of form
+pub use Rattle.textline.specs.Faults.{bad_line}
 
 -- the words and numbers of every answer; 8 has the memory's number and the cell after it
 abbrev pub words : Result Answer DoorFault → List ℕ
@@ -34,10 +34,6 @@ words (Err (Lock (Memory f))) =
 -- the number of an event and its answer, one space between them
 abbrev pub answer_line : ℕ → Result Answer DoorFault → List ℕ
 answer_line k result = decimal k ++ (codes " " ++ (words result ++ (10 ∷ [])))
-
--- `bad`, the line and the number of a fault of form
-abbrev pub bad_line : FormFault → List ℕ
-bad_line f = form_words f ++ (10 ∷ [])
 
 -- sizes out of range get 1
 abbrev pub sizes_line : SizeFault → List ℕ

@@ -4,5 +4,6 @@
 mod lines;
 mod words;
 
-pub use lines::{answer_line, bad_line, queue_line, refused_sizes};
+pub use lines::{answer_line, queue_line, refused_sizes};
+pub use textline::bad_line;
 pub use words::Outcome;

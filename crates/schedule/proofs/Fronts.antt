@@ -136,8 +136,3 @@ same_number bs a b n m p q =
     let cut = one_cut (decimal n) a (decimal m) b (no_end_decimal n x) (no_end_decimal m y)
     (sym p.whole ∙ q.whole) in
     (decimal_injective n m (omega arith) (omega arith) cut.0, cut.1)
-
--- a text of no bytes
-pub empty : (l : List ℕ) → length l ≡ 0 → l ≡ []
-empty [] z = refl
-empty (x ∷ l) z = absurd (omega arith)

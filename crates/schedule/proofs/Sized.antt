@@ -1,5 +1,5 @@
 -- The size section, line by line: what is known after each line, and where it stops. Assumes nothing.
-use Rattle.std.proofs.Common.{◌≡◌, ℕ, ◌<◌, ◌≤◌, List, [], ◌∷◌, ◌++◌, length, take, IsErrAnd, Ok, Err, decimal, Result}
+use Rattle.std.proofs.Common.{◌≡◌, ℕ, ◌≤◌, List, [], ◌∷◌, ◌++◌, length, take, IsErrAnd, Ok, Err, decimal, Result}
 use Rattle.std.proofs.Common.{sym, refl, ◌∙◌, subst, arith, Bor}
 use Rattle.textline.specs.declared.events.SizeLines.{SizeLines}
 use Rattle.textline.specs.declared.faults.FormFault.{FormFault}
@@ -7,7 +7,7 @@ use Rattle.textline.specs.declared.faults.FormFault.TheVariants.{BadLine}
 use Rattle.textline.specs.Lines.{NumberLine}
 use Rattle.textline.specs.Numbers.{Small}
 use Rattle.schedule.specs.Schedules.{lines_of, text_of, Fits, StopsAt}
-use Rattle.schedule.specs.Sections.{SizeSection, TakesSizes, TakesCount}
+use Rattle.schedule.specs.Sections.{TakesSizes}
 use Rattle.textline.proofs.Ends.{no_end_decimal}
 use Rattle.schedule.proofs.Fronts.{Begun, begun_none, begun_more, stops, same_number}
 
@@ -75,13 +75,6 @@ module _ (bs r₁ : List ℕ) (h₁ : NumberLine bs 3 r₁) where
           (front bs r₃ c n 0 3 (h₂.small, (h₃.small, (omega arith, tt))) (omega arith) begun_3.whole)
           (λ x. none x.sizes.counters x.after (record { small = x.sound.sizes.1.1.0; whole = x.goes }))
 
-      -- all four lines are there
-      pub section : (k : ℕ) (r₄ : List ℕ) → NumberLine r₃ k r₄ → SizeSection bs (sized c n k) r₄
-      section k r₄ h₄ = record {
-        small = (h₂.small, (h₃.small, (h₄.small, tt)));
-        whole = (begun_more (decimal k) r₄ begun_3 (no_end_decimal k h₄.small) h₄.whole).whole;
-      }
-
 -- the first line is `3`
 pub opened : {bs rest : List ℕ} {n : ℕ} → NumberLine bs n rest → n ≡ 3 → NumberLine bs 3 rest
 opened {bs} {rest} h is = subst (λ k. NumberLine bs k rest) is h
@@ -91,10 +84,3 @@ pub fails_at : (bs : List ℕ) (r : Result (SizeLines × Bor (List ℕ)) FormFau
     → IsErrAnd r (λ y. y ≡ f) → f ≡ BadLine line → length bs ≤ 65535 → line ≤ 4 → StopsAt line bs → TakesSizes bs r
 fails_at bs (Ok x) f line e is short le stop = absurd e
 fails_at bs (Err g) f line e is short le stop = subst (λ h. TakesSizes bs (Err h)) (sym (e ∙ is)) (short, le, stop)
-
--- a number above 2,000 is no count of events
-pub count_fails : (bs rest : List ℕ) (n : ℕ) (r : Result (ℕ × Bor (List ℕ)) FormFault) (f : FormFault)
-    → IsErrAnd r (λ y. y ≡ f) → f ≡ BadLine 5 → 2000 < n → NumberLine bs n rest → TakesCount bs r
-count_fails bs rest n (Ok x) f e is big h = absurd e
-count_fails bs rest n (Err g) f e is big h =
-    (e ∙ is, λ m after le k. omega (arith, (same_number bs rest after n m h k).0))

@@ -1,4 +1,6 @@
 // The sections of a schedule in their order.
+// What a call takes and the text behind it are a pair, as `split_first` gives it: the clauses tie the one to the other,
+// and a caller holds no text that is half read.
 ghost use Rattle.std.specs.Prelude.{◌≡◌, ◌+◌, ◌<◌, ◌≤◌, length, MatchResult, ◌≢◌};
 ghost use Rattle.textline.specs.declared.faults.FormFault.TheVariants.{TooLong, BadLine};
 ghost use Rattle.schedule.specs.Sections.{TakesNumber, TakesSizes, TakesCount, TakesEvent, TakesEnd};
@@ -26,37 +28,6 @@ pub fn read_limit() -> u64
     LONGEST as u64 + 1
 }
 
-// Judges the length of a text, before anything of it is read.
-fn check_length(text: &[u8]) -> Result<(), FormFault>
-    ensures { MatchResult result (λ _. length text.now ≤ 65535)
-        (λ f. (f ≡ TooLong) × (65535 < length text.now)) }
-{
-    if text.len() > LONGEST {
-        return Err(FormFault::TooLong);
-    }
-    Ok(())
-}
-
-// Judges the number that opens the size section.
-fn check_opening(n: u16) -> Result<(), FormFault>
-    ensures { MatchResult result (λ _. n ≡ 3) (λ f. (f ≡ BadLine 1) × (n ≢ 3)) }
-{
-    if n != SIZES {
-        return Err(FormFault::BadLine { line: 1 });
-    }
-    Ok(())
-}
-
-// Judges a count of events.
-fn check_count(count: u16) -> Result<(), FormFault>
-    ensures { MatchResult result (λ _. count ≤ 2000) (λ f. (f ≡ BadLine 5) × (2000 < count)) }
-{
-    if count > MOST_EVENTS {
-        return Err(FormFault::BadLine { line: COUNT_LINE });
-    }
-    Ok(())
-}
-
 // The line of the event that is number `index`, counted from 0.
 pub fn line_of_event(index: u16) -> u32
     ensures { result ≡ 6 + index }
@@ -68,19 +39,20 @@ pub fn line_of_event(index: u16) -> u32
 fn number_line(text: &[u8], line: u32) -> Result<(u16, &[u8]), FormFault>
     ensures { TakesNumber text.now line result }
 {
-    match cut_number(text) {
-        Some((n, rest)) => Ok((n, rest)),
-        None => Err(FormFault::BadLine { line }),
-    }
+    cut_number(text).ok_or(FormFault::BadLine { line })
 }
 
 // Judges the length of the whole text, then takes the size section off its front.
 pub fn take_sizes(text: &[u8]) -> Result<(SizeLines, &[u8]), FormFault>
     ensures { TakesSizes text.now result }
 {
-    check_length(text)?;
+    if text.len() > LONGEST {
+        return Err(FormFault::TooLong);
+    }
     let (opening, rest) = number_line(text, 1)?;
-    check_opening(opening)?;
+    if opening != SIZES {
+        return Err(FormFault::BadLine { line: 1 });
+    }
     let (cards, rest) = number_line(rest, 2)?;
     let (nodes, rest) = number_line(rest, 3)?;
     let (counters, rest) = number_line(rest, 4)?;
@@ -97,7 +69,9 @@ pub fn take_count(text: &[u8]) -> Result<(u16, &[u8]), FormFault>
     ensures { TakesCount text.now result }
 {
     let (count, rest) = number_line(text, COUNT_LINE)?;
-    check_count(count)?;
+    if count > MOST_EVENTS {
+        return Err(FormFault::BadLine { line: COUNT_LINE });
+    }
     Ok((count, rest))
 }
 
@@ -105,12 +79,9 @@ pub fn take_count(text: &[u8]) -> Result<(u16, &[u8]), FormFault>
 pub fn take_event(text: &[u8], index: u16) -> Result<(Event, &[u8]), FormFault>
     ensures { TakesEvent text.now index result }
 {
-    match cut_event(text) {
-        Some((e, rest)) => Ok((e, rest)),
-        None => Err(FormFault::BadLine {
-            line: line_of_event(index),
-        }),
-    }
+    cut_event(text).ok_or(FormFault::BadLine {
+        line: line_of_event(index),
+    })
 }
 
 // Judges that nothing follows the last of `count` events, not even a byte without a line end.

@@ -1,6 +1,6 @@
 -- The texts that `decimal` writes are those that a number is read from. Assumes nothing.
 use Rattle.std.proofs.Common.{◌≡◌, ℕ, ◌<◌, List, length, get_or, Ok, Err, IsUtf8, decimal, Result, sym, ap, ◌∙◌}
-use Rattle.std.proofs.Common.{subst, ⊎_elim, arith}
+use Rattle.std.proofs.Common.{subst, ⊎_elim, arith, Bor, Option, MatchResult, MatchOption}
 use Rattle.std.specs.Result.{result_ok}
 use Rattle.std.specs.Str.Parse.{ParsesUnsigned, AllDigits, digits_value}
 use Rattle.std.proofs.lemmas.Fmt.{decimal_nonempty, decimal_digit, decimal-digits_value, digits_decimal}
@@ -35,6 +35,13 @@ pub utf8_numeral : (bs : List ℕ) (n : ℕ) → Numeral bs n → IsUtf8 bs
 utf8_numeral bs n h =
     let lt = h.small in
     subst IsUtf8 (sym h.text) (IsUtf8-from_ascii _ (IsAscii-decimal n (omega arith)))
+
+-- bytes that are taken as text stay as they are, and those that are not taken are no text
+pub taken : {E : Type 0} (Q : E → Type 0) (bs : List ℕ) (r : Result (Bor (List ℕ)) E) (o : Option (Bor (List ℕ)))
+    → MatchResult r (λ s. (s.now ≡ bs) × IsUtf8 bs) (λ e. (IsUtf8 bs → ⊥) × Q e) → o ≡ result_ok r
+    → MatchOption o (IsUtf8 bs → ⊥) (λ s. s.now ≡ bs)
+taken Q bs (Ok s) o m e = subst (λ x. MatchOption x (IsUtf8 bs → ⊥) (λ t. t.now ≡ bs)) (sym e) m.0
+taken Q bs (Err f) o m e = subst (λ x. MatchOption x (IsUtf8 bs → ⊥) (λ t. t.now ≡ bs)) (sym e) m.0
 
 -- what `parse` reads of a text that starts as a number's is the number
 pub reads_number : {E : Type 0} (bs : List ℕ) (r : Result ℕ E) → ParsesUnsigned 16 10 bs r → StartsPlain bs

@@ -1,12 +1,10 @@
 -- Where a line ends, and that a text is cut into lines in one way. Assumes nothing.
-use Rattle.std.proofs.Common.{◌≡◌, ℕ, suc, ◌+◌, ◌-◌, ◌<◌, List, [], ◌∷◌, ◌++◌, length, get_or, take, drop, decimal}
-use Rattle.std.proofs.Common.{sym, refl, ap, ◌∙◌, add-zero, arith, length-append, take-append-drop, length-take-le}
-use Rattle.std.proofs.Common.{get_or-take}
-use native.Mathlib.Nat.{sub-zero}
+use Rattle.std.proofs.Common.{◌≡◌, ℕ, suc, ◌<◌, List, [], ◌∷◌, ◌++◌, length, get_or, decimal}
+use Rattle.std.proofs.Common.{sym, refl, ap, ◌∙◌, add-zero, arith, length-append}
 use Rattle.std.specs.List.{AllByRecursion}
 use Rattle.std.proofs.lemmas.Fmt.{digits_decimal}
 use Rattle.std.proofs.ByRecursion.{All-get_or, All-append, All-from_get_or}
-use Rattle.std.proofs.lemmas.List.{take_rest, drop_more, get_or-append-add}
+use Rattle.std.proofs.lemmas.List.{get_or-append-add}
 use Rattle.std.proofs.lemmas.Str.Parse.{digit_at}
 use Rattle.textline.specs.declared.events.Event.{Event}
 use Rattle.textline.specs.declared.events.Event.TheVariants.{Read, Write, Leave, Add, Show, Step, Abort, Reuse}
@@ -14,16 +12,6 @@ use Rattle.textline.specs.Events.{Writes, written, letter, numbers_of}
 use Rattle.textline.specs.Lines.{NoEnd, Cut, NumberLine, EventLine}
 use Rattle.textline.specs.Numbers.{Numeral, spelled, Small}
 use Rattle.textline.proofs.Decimals.{own}
-
--- the first byte 10 cuts the first line off
-pub cut_at : (s : List ℕ) (i : ℕ) → i < length s → get_or s i 0 ≡ 10 → ((k : ℕ) → k < i → get_or s k 0 ≡ 10 → ⊥)
-    → Cut s (take (i - 0) s) (take (length s - (i + 1)) (drop (i + 1) s))
-cut_at s i lt here none = rw (sub-zero, take_rest) (record {
-  whole = sym (take-append-drop i s) ∙ ap (λ l. take i s ++ l) (drop_more s i 0 lt ∙ ap (λ b. b ∷ drop (i + 1) s) here);
-  one = λ k h e.
-      let below : k < i = omega (arith, length-take-le i s (omega arith)) in
-      none k below (sym (get_or-take i s k 0 below) ∙ e);
-})
 
 -- a text without a line end has none behind its first byte
 tail_free : (b : ℕ) (l : List ℕ) → NoEnd (b ∷ l) → NoEnd l
@@ -103,11 +91,3 @@ event_of_cut s line rest after e c h = record {
   text =
       sym (one_cut (written e) after line rest (no_end_written e h.small) c.one (sym h.whole ∙ c.whole)).0;
 }
-
--- a line cut off that holds a number is a number line
-pub number_line_is : (s line rest : List ℕ) (n : ℕ) → Cut s line rest → Numeral line n → NumberLine s n rest
-number_line_is s line rest n c h = record { small = h.small; whole = c.whole ∙ ap (λ l. l ++ (10 ∷ rest)) h.text }
-
--- a line cut off that writes an event is an event line
-pub event_line_is : (s line rest : List ℕ) (e : Event) → Cut s line rest → Writes line e → EventLine s e rest
-event_line_is s line rest e c h = record { small = h.small; whole = c.whole ∙ ap (λ l. l ++ (10 ∷ rest)) h.text }

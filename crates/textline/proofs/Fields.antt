@@ -1,42 +1,80 @@
 -- Where a number ends in a text. Assumes nothing.
-use Rattle.std.proofs.Common.{◌≡◌, ℕ, ◌+◌, ◌<◌, ◌≤◌, List, [], ◌∷◌, ◌++◌, length, get_or, take, drop, set, decimal}
-use Rattle.std.proofs.Common.{sym, refl, ap, ◌∙◌, subst, ⊎_elim, append_assoc, append-nil, add-zero, arith}
-use Rattle.std.proofs.Common.{length-append}
+use Rattle.std.proofs.Common.{◌≡◌, ℕ, ◌+◌, ◌<◌, ◌≤◌, true, false, List, [], ◌∷◌, ◌++◌, length, get_or, take, drop, set}
+use Rattle.std.proofs.Common.{decimal, sym, refl, ap, ◌∙◌, subst, append_assoc, add-zero, ⊎_elim, arith, rules, tests}
+use Rattle.std.proofs.Common.{Bor, Some, nat_eq, length-append, take-append-drop}
+use Rattle.std.specs.Char.{is_ascii_digit}
+use Rattle.std.specs.Cmp.Lexicographic.{pointwise}
 use Rattle.std.specs.Int.{IsInRange}
-use Rattle.std.specs.Str.Parse.{AllDigits}
+use Rattle.std.specs.List.{prefix_len}
 use Rattle.std.proofs.lemmas.Fmt.{digits_decimal, decimal_injective}
-use Rattle.std.proofs.lemmas.List.{take_at, take_all, drop_at, drop_all, drop_more, take_more_set, get_or_append_left}
+use Rattle.std.proofs.lemmas.List.{take_at, drop_at, drop_more, take_more_set, get_or_append_left}
+use Rattle.std.proofs.lemmas.List.{get_or-drop, get_or_past}
+use Rattle.std.proofs.lemmas.Bool.{false≢true}
+use Rattle.std.proofs.lemmas.Bool.Decides.{Decides-eqb}
+use Rattle.std.proofs.lemmas.Slice.Eq.{strip_prefix_is}
+use Rattle.std.proofs.str.Laws.{order}
 use Rattle.std.proofs.lemmas.List.{get_or-append-add}
+use Rattle.std.proofs.lemmas.List.Sums.{prefix_len_is, prefix_len_stops}
 use Rattle.std.proofs.ByRecursion.{All-get_or, All-push}
 use Rattle.std.proofs.lemmas.Str.Parse.{digit_at}
-use Rattle.std.proofs.str.Laws.{order}
-use Rattle.textline.specs.Numbers.{Field, Stops, spelled, Small, Spells}
+use Rattle.textline.specs.Numbers.{Numeral, Field, Stops, spelled, Small, Spells}
 use Rattle.textline.proofs.Decimals.{own}
 
--- the first k bytes of bs are digits, and the next is none
-pub record Run (bs : List ℕ) (k : ℕ) : Type 0 where
-  pub digits : (i : ℕ) → i < k → IsInRange 48 57 (get_or bs i 0)
-  pub stops : IsInRange 48 57 (get_or bs k 0) → ⊥
+-- the test of a digit says yes to digits, and no to all else
+is_digit : (c : ℕ) → IsInRange 48 57 c → is_ascii_digit c ≡ true
+is_digit c h = search (rules, tests)
 
--- the run of digits ends where the number does
-pub run_is : (bs ds after : List ℕ) (k : ℕ) → Run bs k → bs ≡ ds ++ after → AllDigits 10 ds → Stops after
-    → k ≡ length ds
-run_is bs ds after k r e d st =
-    let next : get_or bs (length ds) 0 ≡ get_or after 0 0 = ap (λ l. get_or l (length ds) 0) e
-    ∙ ap (λ i. get_or (ds ++ after) i 0) (sym (add-zero (length ds))) ∙ get_or-append-add ds after 0 0 in
-    ⊎_elim
-    (λ short. absurd (r.stops (subst (IsInRange 48 57) (sym (ap (λ l. get_or l k 0) e
-    ∙ get_or_append_left ds after 0 k short)) (digit_at ds k d short))))
-    (λ le. ⊎_elim (λ long. absurd (st (subst (IsInRange 48 57) next (r.digits (length ds) long)))) (λ ge. omega arith)
-    (order (length ds) k))
-    (order k (length ds))
+is_none : (c : ℕ) → (IsInRange 48 57 c → ⊥) → is_ascii_digit c ≡ false
+is_none c h = search (rules, tests)
 
--- the run of digits is the text of the number
-pub front_is : (bs after : List ℕ) (k n : ℕ) → Run bs k → n < 65536 → bs ≡ decimal n ++ after → Stops after
-    → take k bs ≡ decimal n
+-- the digits at the front are those of the number
+digits_run : (n : ℕ) (after : List ℕ) → n < 65536 → Stops after
+    → prefix_len is_ascii_digit (decimal n ++ after) ≡ length (decimal n)
+digits_run n after lt st =
+    prefix_len_is is_ascii_digit (decimal n ++ after) (length (decimal n)) 0
+    (omega (arith, length-append (decimal n) after))
+    (λ k h. is_digit _ (subst (IsInRange 48 57) (sym (get_or_append_left (decimal n) after 0 k h))
+    (digit_at (decimal n) k (digits_decimal own n (omega arith)) h)))
+    (λ h. is_none _ (subst (λ v. IsInRange 48 57 v → ⊥) (sym (ap (λ i. get_or (decimal n ++ after) i 0)
+    (sym (add-zero (length (decimal n)))) ∙ get_or-append-add (decimal n) after 0 0)) st))
+
+-- they are its text
+front_is : (bs after : List ℕ) (k n : ℕ) → k ≡ prefix_len is_ascii_digit bs → n < 65536 → bs ≡ decimal n ++ after
+    → Stops after → take k bs ≡ decimal n
 front_is bs after k n r lt e st =
-    ap (take k) e ∙ take_at (decimal n) after k (sym (run_is bs (decimal n) after k r e
-    (digits_decimal own n (omega arith)) st))
+    ap (take k) e ∙ take_at (decimal n) after k (sym (r ∙ ap (prefix_len is_ascii_digit) e ∙ digits_run n after lt st))
+
+-- no digit stands behind the digits at the front
+run_stops : (bs : List ℕ) → Stops (drop (prefix_len is_ascii_digit bs) bs)
+run_stops bs h =
+    let k = prefix_len is_ascii_digit bs in
+    let here : is_ascii_digit (get_or bs k 0) ≡ true =
+    is_digit _ (subst (IsInRange 48 57) (get_or-drop k bs 0 0 ∙ ap (λ i. get_or bs i 0) (add-zero k)) h) in
+    ⊎_elim (λ lt. false≢true (sym (prefix_len_stops is_ascii_digit bs 0 lt) ∙ here))
+    (λ le. omega (arith, h, get_or-drop k bs 0 0, get_or_past bs (k + 0) 0 (omega arith))) (order k (length bs))
+
+-- the space at the front is taken off
+pub spaced : (bs : List ℕ) (x : Bor (List ℕ))
+    → (pointwise nat_eq (take 1 bs) (32 ∷ []) ≡ true) × (x.now ≡ drop 1 bs) × (length x.now + 1 ≡ length bs)
+    → bs ≡ 32 ∷ x.now
+spaced bs x h = strip_prefix_is {A = ℕ} Decides-eqb bs (32 ∷ []) (Some x) h
+
+-- a space, the digits behind it, which are the text of a number, and what follows
+pub field_is : (bs rest digits after : List ℕ) (k n : ℕ) → bs ≡ 32 ∷ rest → k ≡ prefix_len is_ascii_digit rest
+    → digits ≡ take k rest → after ≡ drop k rest → Numeral digits n → Field bs n after
+field_is bs rest digits after k n e r d a h = record {
+  small = h.small;
+  whole = e ∙ ap (λ l. 32 ∷ l) (sym (take-append-drop k rest) ∙ (λ i. (sym d ∙ h.text) i ++ sym a i));
+  stops = subst Stops (sym (a ∙ ap (λ i. drop i rest) r)) (run_stops rest);
+}
+
+-- such a number at the front is the text of the digits there
+pub numeral_is : (bs rest digits after : List ℕ) (k n : ℕ) → bs ≡ 32 ∷ rest → k ≡ prefix_len is_ascii_digit rest
+    → digits ≡ take k rest → Field bs n after → Numeral digits n
+numeral_is bs rest digits after k n e r d f =
+    let x = f.whole in
+    let same : rest ≡ decimal n ++ after = cc in
+    record { small = f.small; text = d ∙ front_is rest after k n r f.small same f.stops }
 
 -- what stands before one end is the same
 cancel : (xs ys a : List ℕ) → xs ++ a ≡ ys ++ a → xs ≡ ys
@@ -52,15 +90,8 @@ same_after bs a b n m f g =
     let x = f.whole in
     let y = g.whole in
     let e : decimal n ++ a ≡ decimal m ++ b = cc in
-    let dn = digits_decimal own n (omega arith) in
-    let run : Run (decimal n ++ a) (length (decimal n)) = record {
-      digits = λ i lt. subst (IsInRange 48 57) (sym (get_or_append_left (decimal n) a 0 i lt))
-          (digit_at (decimal n) i dn lt);
-      stops = subst (λ v. IsInRange 48 57 v → ⊥) (sym (ap (λ i. get_or (decimal n ++ a) i 0)
-          (sym (add-zero (length (decimal n)))) ∙ get_or-append-add (decimal n) a 0 0)) f.stops;
-    } in
-    let long = run_is (decimal n ++ a) (decimal m) b (length (decimal n)) run e (digits_decimal own m (omega arith))
-    g.stops in
+    let long : length (decimal n) ≡ length (decimal m) =
+    sym (digits_run n a p f.stops) ∙ ap (prefix_len is_ascii_digit) e ∙ digits_run m b q g.stops in
     sym (drop_at (decimal n) a (length (decimal n)) refl) ∙ ap (drop (length (decimal n))) e
     ∙ drop_at (decimal m) b (length (decimal n)) (sym long)
 
@@ -96,10 +127,6 @@ pub record Got (s : List ℕ) (i : ℕ) (out rest : List ℕ) : Type 0 where
   pub whole : s ≡ spelled (take i out) ++ rest
   pub only : (ns : List ℕ) → Small ns → i ≤ length ns → s ≡ spelled ns → rest ≡ spelled (drop i ns)
 
--- before the first number
-pub got_none : (s out : List ℕ) → Got s 0 out s
-got_none s out = record { small = tt; whole = refl; only = λ ns small le e. e }
-
 -- each of several numbers is at most 65,535
 small_at : (ns : List ℕ) (i : ℕ) → Small ns → i < length ns → get_or ns i 0 < 65536
 small_at ns i h lt = All-get_or (λ n. n < 65536) ns i 0 lt h
@@ -125,23 +152,6 @@ got_more s out rest after i n lt g f = record {
       same_after rest after _ n (get_or ns i 0) f (next_field ns rest i all here (g.only ns all (omega arith) e));
   small = subst Small (sym (take_more_set out i n lt)) (All-push (λ k. k < 65536) (take i out) n g.small f.small);
 }
-
--- all numbers are taken, and nothing is left
-pub got_all : (s out rest : List ℕ) (n i : ℕ) → i ≡ n → length out ≡ n → length rest ≡ 0 → Got s i out rest
-    → Spells n s out
-got_all s out [] n i end len z got =
-    let g = subst (λ k. Got s k out []) end got in
-    let all = take_all n out (omega arith) in
-    record { long = len; small = subst Small all g.small; text = g.whole ∙ append-nil _ ∙ ap spelled all }
-got_all s out (x ∷ rest) n i end len z g = absurd (omega arith)
-
--- all numbers are taken, and something is left: it is no text of so many
-pub got_extra : (s out rest : List ℕ) (n i : ℕ) → i ≡ n → Got s i out rest → (length rest ≡ 0 → ⊥) → (ns : List ℕ)
-    → Spells n s ns → ⊥
-got_extra s out rest n i end got some ns h =
-    let g = subst (λ k. Got s k out rest) end got in
-    let long = h.long in
-    some (ap length (g.only ns h.small (omega arith) h.text ∙ ap spelled (drop_all n ns (omega arith))))
 
 -- a text of n numbers goes on with a field after i of them
 pub got_next : (s out rest ns : List ℕ) (n i : ℕ) → Got s i out rest → i < n → Spells n s ns

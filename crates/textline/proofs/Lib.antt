@@ -1,4 +1,3 @@
 pub mod Decimals
 pub mod Fields
-pub mod Letters
 pub mod Ends

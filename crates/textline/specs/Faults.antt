@@ -1,5 +1,5 @@
 -- Number, line and words of a fault of form. Assumes nothing.
-use Rattle.std.specs.Prelude.{ℕ, List, ◌++◌, codes, decimal}
+use Rattle.std.specs.Prelude.{ℕ, List, [], ◌∷◌, ◌++◌, codes, decimal}
 use Rattle.textline.specs.declared.faults.FormFault.{FormFault}
 use Rattle.textline.specs.declared.faults.FormFault.TheVariants.{TooLong, BadLine}
 
@@ -16,3 +16,7 @@ form_line (BadLine line) = line
 -- `bad`, the line and the number, one space between each two
 abbrev pub form_words : FormFault → List ℕ
 form_words f = codes "bad " ++ (decimal (form_line f) ++ (codes " " ++ decimal (form_number f)))
+
+-- `bad`, the line and the number of a fault of form, and the end of the line
+abbrev pub bad_line : FormFault → List ℕ
+bad_line f = form_words f ++ (10 ∷ [])

@@ -1,7 +1,8 @@
 // Why a text is no schedule.
-ghost use Rattle.std.specs.Prelude.{◌≡◌, Some};
-ghost use Rattle.textline.specs.Faults.{form_number, form_line, form_words};
+ghost use Rattle.std.specs.Prelude.{◌≡◌, IfOk, Some, string_bytes};
+ghost use Rattle.textline.specs.Faults.{form_number, form_line, form_words, bad_line};
 
+use std::alloc::{AllocError, Global};
 use std::fmt;
 
 #[derive(Clone, Copy, Debug)]
@@ -19,7 +20,7 @@ impl FormFault {
     {
         match *self {
             FormFault::TooLong => 32,
-            FormFault::BadLine { line: _ } => 31,
+            FormFault::BadLine { .. } => 31,
         }
     }
 
@@ -42,4 +43,11 @@ impl fmt::Display for FormFault {
         let number = self.number();
         write!(f, "bad {line} {number}")
     }
+}
+
+// The fault as a line of a report.
+pub fn bad_line(heap: Global, fault: FormFault) -> Result<String, AllocError>
+    ensures { IfOk result (λ s. string_bytes s ≡ bad_line fault) }
+{
+    format!(in heap; "{fault}\n")
 }

@@ -7,5 +7,5 @@ mod lines;
 mod numerals;
 
 pub use events::{Event, SizeLines};
-pub use faults::FormFault;
+pub use faults::{FormFault, bad_line};
 pub use lines::{cut_event, cut_number};

@@ -1,21 +1,19 @@
 // Numbers in a schedule: decimal, at most 65,535, without needless zeros.
-ghost use Rattle.std.specs.Prelude.{◌≡◌, ℕ, ◌<◌, ◌≤◌, length, Decides, slice_index};
-ghost use Rattle.std.specs.Int.{IsInRange};
+ghost use Rattle.std.specs.Prelude.{◌≡◌, ◌≤◌, length, Decides};
+ghost use Rattle.std.specs.Char.{is_ascii_digit};
+ghost use Rattle.std.specs.List.{prefix_len};
 ghost use Rattle.textline.specs.Numbers.{Found, Numeral, StartsPlain, TakesField, Spells};
 
 use std::str;
-
-const PLUS: u8 = b'+';
-
-const ZERO: u8 = b'0';
-
-const SPACE: u8 = b' ';
 
 // Whether `digits` begins as the text of a number: no sign, no needless zero, and not empty.
 fn starts_plain(digits: &[u8]) -> bool
     ensures { Decides result (StartsPlain digits.now) }
 {
-    !digits.is_empty() && digits[0] != PLUS && (digits[0] != ZERO || digits.len() == 1)
+    match digits {
+        [] | [b'+', ..] | [b'0', _, ..] => false,
+        _ => true,
+    }
 }
 
 // The number that `digits` is the text of. `parse` alone would take a sign and leading zeros.
@@ -25,36 +23,24 @@ pub(crate) fn number(digits: &[u8]) -> Option<u16>
     if !starts_plain(digits) {
         return None;
     }
-    let Ok(text) = str::from_utf8(digits) else {
-        return None;
-    };
-    text.parse::<u16>().ok()
+    str::from_utf8(digits).ok()?.parse().ok()
 }
 
 // How many digits stand at the front.
 fn digits_len(s: &[u8]) -> usize
+    ensures digits { result ≡ prefix_len is_ascii_digit s.now }
     ensures within { result ≤ length s.now }
-    ensures digits { (k : ℕ) → k < result → IsInRange 48 57 (slice_index s.now k) }
-    ensures stops { IsInRange 48 57 (slice_index s.now result) → ⊥ }
 {
-    let mut n = 0;
-    while n < s.len() && s[n].is_ascii_digit() {
-        n += 1;
-    }
-    n
+    s.iter().take_while(|b| b.is_ascii_digit()).count()
 }
 
 // A space and a number, and what follows them.
 fn field(s: &[u8]) -> Option<(u16, &[u8])>
     ensures { TakesField s.now result }
 {
-    let (first, rest) = s.split_first()?;
-    if *first != SPACE {
-        return None;
-    }
+    let rest = s.strip_prefix(b" ")?;
     let (digits, after) = rest.split_at(digits_len(rest));
-    let n = number(digits)?;
-    Some((n, after))
+    Some((number(digits)?, after))
 }
 
 // `N` numbers, each after one space, and nothing else.
@@ -63,10 +49,8 @@ pub(crate) fn numbers<const N: usize>(s: &[u8]) -> Option<[u16; N]>
 {
     let mut out = [0u16; N];
     let mut rest = s;
-    for i in 0..N {
-        let (n, after) = field(rest)?;
-        out[i] = n;
-        rest = after;
+    for slot in out.iter_mut() {
+        (*slot, rest) = field(rest)?;
     }
-    if rest.is_empty() { Some(out) } else { None }
+    rest.is_empty().then_some(out)
 }

@@ -1,5 +1,5 @@
 use Rattle.std.proofs.Common.{sym, ◌∙◌, append-nil, arith}
-use Rattle.formreport.proofs.Told.{pushed, opening, fails, fails_memory, before_sizes, before_count}
+use Rattle.formreport.proofs.Told.{pushed, opening, fails, before_sizes, before_count}
 use Rattle.formreport.proofs.Told.{telling_none, telling_more, stops_event, stops_end, tells_all}
 use Rattle.formreport.proofs.telling.tell.Goals as goal
 
@@ -7,9 +7,6 @@ pub returns-in_err-sizes : goal.returns-in_err-sizes
 returns-in_err-sizes c =
     fails _ _ _ _ _ _ c.from_residual.ensures.1 (sym (append-nil _))
     (before_sizes _ _ c.in_err-sizes.ensures)
-
-pub returns-in_err-push_str : goal.returns-in_err-push_str
-returns-in_err-push_str c = fails_memory _ _ _ _ c.from_residual-in_err-push_str.ensures.1
 
 pub returns-in_err-count : goal.returns-in_err-count
 returns-in_err-count c =
@@ -34,12 +31,6 @@ returns-in_err-e c =
     let f = c.in_err-e.ensures in
     stops_event c.loop-index.invariant _ _ _ sizes.0 sizes.1 opened _ _ (omega arith)
     c.from_residual-in_err-e.ensures.1 f.0 f.1
-
-pub returns-in_err-event_line : goal.returns-in_err-event_line
-returns-in_err-event_line c = fails_memory _ _ _ _ c.from_residual-in_err-event_line.ensures.1
-
-pub returns-in_err-push_str-3 : goal.returns-in_err-push_str-3
-returns-in_err-push_str-3 c = fails_memory _ _ _ _ c.from_residual-in_err-push_str-3.ensures.1
 
 pub loop-index-preserved : goal.loop-index-preserved
 loop-index-preserved c =

@@ -2,7 +2,7 @@ use Rattle.std.proofs.Common.{◌≡◌, ◌+◌, ◌<◌, length, vec_items, re
 use Rattle.std.proofs.lemmas.List.{length_push}
 use Rattle.schedule.proofs.Progress.{progress_none, progress_more, progress_all}
 use Rattle.schedule.proofs.Progress.{early_none, count_stops, event_stops, event_none, end_stops, end_none}
-use Rattle.formtext.proofs.Exits.{whole, fails_sizes, fails_at, fails_memory}
+use Rattle.formtext.proofs.Exits.{whole, fails_sizes, fails_at}
 use Rattle.formtext.proofs.reading.read.Goals as goal
 
 pub returns-in_err-sizes : goal.returns-in_err-sizes
@@ -32,9 +32,6 @@ returns-in_err-e c =
     whole
     (fails_at _ _ _ _ c.from_residual-in_err-e.ensures.1 f.0 c.in_ok-sizes.ensures.0 stop
     (event_none p _ (omega arith) lt stop))
-
-pub returns-in_err-push : goal.returns-in_err-push
-returns-in_err-push c = whole (fails_memory _ _ c.from_residual-in_err-push.ensures.1)
 
 pub loop-index-preserved : goal.loop-index-preserved
 loop-index-preserved c =

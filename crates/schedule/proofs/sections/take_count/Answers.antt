@@ -1,8 +1,7 @@
-use Rattle.schedule.proofs.Sized.{count_fails}
+use Rattle.std.proofs.Common.{refl, arith}
+use Rattle.schedule.proofs.Fronts.{same_number}
 use Rattle.schedule.proofs.sections.take_count.Goals as goal
 
-pub returns-in_err-check_count : goal.returns-in_err-check_count
-returns-in_err-check_count c =
-    let f = c.in_err-check_count.ensures in
-    count_fails _ _ _ _ _ c.from_residual-in_err-check_count.ensures.1 f.0 f.1
-    c.in_ok-count.ensures
+pub returns-then-count-gt-MOST_EVENTS : goal.returns-then-count-gt-MOST_EVENTS
+returns-then-count-gt-MOST_EVENTS c =
+    (refl, λ m after le k. omega (arith, (same_number _ _ after _ m c.in_ok-count.ensures k).0))

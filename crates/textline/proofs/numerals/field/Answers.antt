@@ -1,18 +1,14 @@
-use Rattle.std.proofs.Common.{◌≡◌, ◌++◌, decimal, ◌∙◌}
-use Rattle.textline.proofs.Fields.{front_is}
+use Rattle.textline.proofs.Fields.{spaced, field_is, numeral_is}
 use Rattle.textline.proofs.numerals.field.Goals as goal
 
-pub returns-in_err-n : goal.returns-in_err-n
-returns-in_err-n c =
-    rw c.from_residual-in_err-n.ensures
-    (λ n after f.
-    let cut = c.in_ok-first.ensures.cases.0 in
-    let whole = f.whole in
-    let e : c.in_ok-first.rest.now ≡ decimal n ++ after = cc in
-    c.in_err-n.ensures n (record {
-      small = f.small;
-      text = c.split_at.ensures.front
-          ∙ front_is _ after _ n
-          (record { digits = c.digits_len.ensures.digits; stops = c.digits_len.ensures.stops })
-          f.small e f.stops;
-    }))
+pub returns-in_err-number : goal.returns-in_err-number
+returns-in_err-number c =
+    rw c.from_residual-in_err-number.ensures
+    (λ n after f. c.in_err-number.ensures n
+    (numeral_is _ _ _ after _ n (spaced _ c.in_ok-rest.rest c.in_ok-rest.ensures.cases) c.digits_len.ensures.digits
+    c.split_at.ensures.front f))
+
+pub returns : goal.returns
+returns c =
+    field_is _ _ _ _ _ _ (spaced _ c.in_ok-rest.rest c.in_ok-rest.ensures.cases) c.digits_len.ensures.digits
+    c.split_at.ensures.front c.split_at.ensures.back c.in_ok-number.ensures
