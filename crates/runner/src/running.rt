@@ -40,8 +40,8 @@ fn take_turn<M: Memory>(board: &mut Board<M>, event: Event) -> Result<Answer, Do
 }
 
 // Sets a board up and runs the events of `text` on it, each before the next line is read, so that those before a line
-// at fault have been run: a loop of its own, and no reader of the whole text. Appends the line of every answer to `out`,
-// up to the end of the text or to the first line at fault.
+// at fault have been run: a loop of its own, and no reader of the whole text. Appends the line of every answer to
+// `out`, up to the end of the text or to the first line at fault.
 fn play<M: Memory + Drop>(
     heap: Global,
     memory: M,
