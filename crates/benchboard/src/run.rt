@@ -16,16 +16,11 @@ fn digest_on<M: Memory + Drop>(memory: M, calls: &[Call]) -> u64 {
         nodes: 32,
         counters: 8,
     };
-    match Board::set_up(memory, most) {
-        Ok(mut board) => {
-            let mut digest = 0;
-            for call in calls {
-                digest = extended(digest, board.call(*call));
-            }
-            digest
-        }
-        Err(_) => 0,
-    }
+    Board::set_up(memory, most).map_or(0, |mut board| {
+        calls
+            .iter()
+            .fold(0, |digest, call| extended(digest, board.call(*call)))
+    })
 }
 
 // The sum of the digests of so many runs, each on a new board.

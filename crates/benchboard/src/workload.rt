@@ -39,9 +39,5 @@ fn decode(code: [u16; 7]) -> Call {
 // All calls of a coded list. They are decoded once, ahead of the runs that are measured.
 pub(crate) fn calls_of(heap: Global, codes: &[u16]) -> Result<Vec<Call>, AllocError> {
     let (whole, _) = codes.as_chunks::<7>();
-    let mut calls = Vec::with_capacity(heap, whole.len())?;
-    for code in whole {
-        calls.push(decode(*code))?;
-    }
-    Ok(calls)
+    whole.iter().copied().map(decode).collect(heap)
 }

@@ -16,7 +16,8 @@ use memory::memory::Memory;
 use stages::answer::Answer;
 
 impl<M: Memory> Door<M> {
-    // Takes one row of the table of steps for a card.
+    // Takes one row of the table of steps for a card. This and the next two hand a call down; each follows a law of its
+    // own, so one function of them would only take the name of the call as a parameter.
     pub fn step(&mut self, card: u16) -> Result<Answer, DoorFault>
         ensures moves { (result, door_state M.meaning self.new)
             ≡ passed (door_state M.meaning self.old)

@@ -48,7 +48,7 @@ impl Memo {
 }
 
 impl<M: Memory> Door<M> {
-    // What the lock does on a request.
+    // What the lock does on a request, which is a value, as the door remembers it and holds a resend against it.
     fn serve(&mut self, card: usize, request: Request) -> Result<Answer, LockFault>
         ensures moves { (result, lock_state M.meaning self.new.lock)
             ≡ served (door_size self.old) (lock_state M.meaning self.old.lock) card request }
