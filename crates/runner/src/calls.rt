@@ -9,7 +9,7 @@ use door::request::Kind;
 use lock::values::NodeValues;
 use schedule::Event;
 
-// A request of a kind and two numbers; a call's fields have names, and eight lines of them would hide the table below.
+// A request of a kind and two numbers; a call's fields have names, and lines of them would hide the table below.
 fn request(card: u16, toggle: u16, kind: Kind, first: u16, second: u16) -> Call
     ensures { result ≡ Request card toggle (kind_number kind) first second }
 {
