@@ -10,9 +10,10 @@ use Rattle.memory.specs.declared.access.Access.{Access}
 use Rattle.memory.specs.Meaning.{Tx, live, landed, struck, wrote, value_in}
 use Rattle.memory.specs.Isolation.{has_written}
 use Rattle.memory.proofs.Isolation.{clash, struck_unwritten}
-use Rattle.inplace.specs.declared.log.Transaction.{Transaction}
-use Rattle.inplace.specs.declared.log.Transaction.TheVariants.{Closed, Open, Doomed}
-use Rattle.inplace.specs.Undo.{marks_in, undo_log, distinct, written, undo_of, undoes, tx_in}
+use Rattle.memory.specs.declared.log.Transaction.{Transaction}
+use Rattle.memory.specs.declared.log.Transaction.TheVariants.{Closed, Open, Doomed}
+use Rattle.memory.specs.Logs.{marks_of}
+use Rattle.inplace.specs.Undo.{undo_log, distinct, written, undo_of, undoes, tx_in}
 use Rattle.inplace.proofs.Conflicts.{wrote_written}
 use Rattle.inplace.proofs.Undoes.{lacks_head, lacks_append, distinct_head, distinct_left, distinct_right}
 use Rattle.inplace.proofs.Undoes.{distinct_other, distinct_without, Other, other_sym, other_left, other_parts}
@@ -29,7 +30,7 @@ undoes_append (t ∷ ts) us =
 tx_other : (cs : List ℕ) (us : List Write) (t : Transaction) → Other (undo_of t) us
     → tx_in (landed cs us) t ≡ tx_in cs t
 tx_other cs us Closed a = refl
-tx_other cs us (Open l) a = ap (live (marks_in l)) (written_other cs us (undo_log l) a)
+tx_other cs us (Open l) a = ap (live (marks_of l)) (written_other cs us (undo_log l) a)
 tx_other cs us Doomed a = refl
 
 -- nor do several, none of which keeps any of them
@@ -46,8 +47,8 @@ txs_other cs us (t ∷ ts) a =
 tx_bare : (cs ds : List ℕ) (x : Transaction) → undo_of x ≡ [] → tx_in cs x ≡ tx_in ds x
 tx_bare cs ds Closed e = refl
 tx_bare cs ds (Open l) e =
-    ap (λ us. live (marks_in l) (map (written cs) us)) e
-    ∙ sym (ap (λ us. live (marks_in l) (map (written ds) us)) e)
+    ap (λ us. live (marks_of l) (map (written cs) us)) e
+    ∙ sym (ap (λ us. live (marks_of l) (map (written ds) us)) e)
 tx_bare cs ds Doomed e = refl
 
 -- A transaction t at i gives way to one that has written nothing, and its old values are put back.
