@@ -73,9 +73,9 @@ impl Memory for InPlace {
             self.restore(place, Transaction::Closed);
             return Err(place.refuse(refusal));
         }
-        let value = self.standing(place.cell);
+        let standing = self.standing(place.cell);
         self.serve(Access::Reads, place, Transaction::Open(log));
-        Ok(value)
+        Ok(standing)
     }
 
     // The first write of a cell keeps its old value.

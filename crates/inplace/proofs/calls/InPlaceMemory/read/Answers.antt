@@ -55,7 +55,7 @@ returns c =
     let k = fitted_ok (marks_of l) ms _ c.mark.result tt c.mark.ensures.marks q in
     let r = read_standing c.args.self.now e p c.args.card c.args.cell l c.in_ok-place.ensures c.in_ok-log.ensures ms v k in
     record {
-      answer = ap Ok c.standing-value.ensures ∙ sym (ap (λ o. o.answer) r);
+      answer = ap Ok c.standing-standing.ensures ∙ sym (ap (λ o. o.answer) r);
       after =
           c.serve-2.ensures.after
           ∙ (ap (λ (ws : List Write). served Reads p.card p.cell (live ms (map (written e.cells) ws)) (meaning_of e))
