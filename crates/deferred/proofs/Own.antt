@@ -3,7 +3,7 @@ use Rattle.std.proofs.Common.{◌≡◌, ℕ, ◌<◌, true, List, map, length, 
 use Rattle.std.proofs.Common.{inl, inr}
 use Rattle.std.proofs.Common.{sym, refl, ap, ◌∙◌, get_or-set_same, set-set}
 use lib.Seq.{map-set, set-get_or}
-use Rattle.std.proofs.lemmas.List.{length-map}
+use Rattle.std.proofs.lemmas.List.{get_or-map, length-map}
 use Rattle.std.proofs.lemmas.Bool.{cond-true}
 use Rattle.memory.specs.declared.access.Access.{Access}
 use Rattle.memory.specs.declared.access.Access.TheVariants.{Reads, Writes}
@@ -120,3 +120,6 @@ committing_by m card (Err f) h (inl e) =
 committing_by m card (Err f) h (inr e) =
     cond-true _ _ _ h
     ∙ (ap (commit_at m card) e.0 ∙ ap (λ g. refused g card 0 (with_tx m card none)) (sym e.1))
+
+-- the parts of an access, and a card's record where it is read and where it is put, for the tactics
+pub ruleset parts = (map-set, get_or-map, reading_by, writing_by, committing_by, struck_after_own)

@@ -70,12 +70,14 @@ impl Memory for Deferred {
         Ok(())
     }
 
+    #[tactic(auto, using(crate::proofs::Own::parts))]
     fn begin(&mut self, card: usize) -> Result<(), MemoryFault> {
         self.vacant(card, 0)?;
         self.txs[card] = Transaction::Open(Log::new());
         Ok(())
     }
 
+    #[tactic(auto, using(crate::proofs::Own::parts))]
     fn read(&mut self, card: usize, cell: usize) -> Result<u16, MemoryFault> {
         let place = Place::new(card, cell)?;
         let standing = self.cells[cell];
@@ -86,6 +88,7 @@ impl Memory for Deferred {
         Ok(value)
     }
 
+    #[tactic(auto, using(crate::proofs::Own::parts))]
     fn write(&mut self, card: usize, cell: usize, value: u16) -> Result<(), MemoryFault> {
         let place = Place::new(card, cell)?;
         own_tx::write(&mut self.txs[card], place, value).map_err(|refusal| place.refuse(refusal))?;
@@ -93,6 +96,7 @@ impl Memory for Deferred {
         Ok(())
     }
 
+    #[tactic(auto, using(crate::proofs::Own::parts))]
     fn commit(&mut self, card: usize) -> Result<(), MemoryFault> {
         let place = Place::new(card, 0)?;
         let log = own_tx::take(&mut self.txs[card]).map_err(|refusal| place.refuse(refusal))?;
@@ -100,6 +104,7 @@ impl Memory for Deferred {
         Ok(())
     }
 
+    #[tactic(auto, using(crate::proofs::Own::parts))]
     fn drop(&mut self, card: usize) -> Result<(), MemoryFault> {
         let place = Place::new(card, 0)?;
         match mem::replace(&mut self.txs[card], Transaction::Closed) {

@@ -1,5 +1,5 @@
 -- The search for the first record of a cell.
-use Rattle.std.proofs.Common.{◌≡◌, ℕ, suc, ◌+◌, ◌<◌, Bool, true, false, cond, eqb, List, [], ◌∷◌, length}
+use Rattle.std.proofs.Common.{◌≡◌, ℕ, suc, ◌+◌, Bool, true, false, cond, eqb, List, [], ◌∷◌}
 use Rattle.std.proofs.Common.{is_some, Some, None, Option, refl, ap, ◌∙◌, subst, arith}
 use Rattle.std.specs.List.{position, position_from}
 use Rattle.std.proofs.lemmas.Iterator.Adapters.{position_from-zero}
@@ -64,7 +64,3 @@ module _ {X : Type 0} (f : X → ℕ) (cell : ℕ) where
     none_found k [] e = empty
     none_found k (x ∷ xs) e =
         none_step k x xs (seek f cell (k + 1) xs) (eqb (f x) cell) refl e (none_found (k + 1) xs)
-
-  -- what is found is there
-  pub found_below : (xs : List X) (i : ℕ) → seek f cell 0 xs ≡ Some i → i < length xs
-  found_below = found (λ xs i. i < length xs) (λ x xs q. omega arith) (λ x xs j q h. omega arith)

@@ -63,6 +63,7 @@ impl<T: Celled + Copy> Few<T> {
     ghost use Rattle.memory.specs.Meaning.{has};
 
     // Whether one of the records is of the cell.
+    #[tactic(auto, using(crate::proofs::Seeks::seek_has))]
     pub fn has(&self, cell: usize) -> bool
         ensures { result ≡ has T.place (items_of self.now) cell }
     {

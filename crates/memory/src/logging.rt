@@ -38,6 +38,7 @@ impl Log {
     }
 
     // The value of the write of the cell.
+    #[tactic(auto, using(crate::proofs::Writes::found_value, crate::proofs::Writes::none_value))]
     pub fn value_of(&self, cell: usize) -> Option<u16>
         ensures { result ≡ value_in (writes_of self.now) cell }
     {

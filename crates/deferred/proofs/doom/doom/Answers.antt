@@ -1,11 +1,11 @@
-use Rattle.std.proofs.Common.{◌<◌, ◌≤◌, map, length, sym, ap, ◌∙◌, inl, inr, arith}
+use Rattle.std.proofs.Common.{◌<◌, map, length, sym, ap, ◌∙◌, inl, inr, arith}
 use lib.Seq.{map-set, set-get_or}
 use Rattle.std.proofs.lemmas.List.{get_or-map, length-map}
 use Rattle.std.proofs.lemmas.Bool.{cond-true, cond-false}
 use Rattle.memory.specs.declared.log.Transaction.TheVariants.{Doomed}
 use Rattle.memory.specs.Meaning.{none, doomed, struck, conflicts}
 use Rattle.memory.specs.Logs.{tx_kept}
-use Rattle.memory.proofs.Woven.{others_set, others_kept, others_all}
+use Rattle.memory.proofs.Woven.{others_set, others_kept}
 use Rattle.deferred.proofs.doom.doom.Goals as goal
 use Rattle.deferred.proofs.doom.doom.Goals.{then-i-card+then-conflicts, else-i-card}
 use Rattle.deferred.proofs.doom.doom.Goals.{else-i-card-via-then-i-card+else-conflicts, else-i-card-via-else-i-card}
@@ -36,9 +36,3 @@ loop-i-preserved c =
         | else-i-card-via-else-i-card v ↦ ap (map tx_kept) (v.txs-is ∙ back) ∙ kept (inl v.if-i-card.false)
       ]
     ]
-
-pub returns : goal.returns
-returns c =
-    let ts = map tx_kept c.args.txs.now in
-    let h : length ts ≤ c.loop-i.i = rw (length-map c.args.txs.now tx_kept) c.loop-i-test.false in
-    others_all (struck c.args.how c.args.cell) c.args.card none ts _ _ c.loop-i.invariant h
