@@ -1,6 +1,7 @@
 -- The first write of a cell: its old value goes into the log, and the new one into the cell.
 use Rattle.std.proofs.Common.{◌≡◌, ℕ, ◌<◌, true, false, List, [], ◌∷◌, ◌++◌, map, length, get_or, set, Some, sym, ap, ◌∙◌}
 use Rattle.std.proofs.lemmas.Bool.{cond-false}
+use Rattle.std.proofs.lemmas.List.{length-map}
 use Rattle.memory.specs.declared.write.Write.{Write}
 use Rattle.memory.specs.declared.access.Access.TheVariants.{Writes}
 use Rattle.memory.specs.declared.log.Log.{Log}
@@ -8,12 +9,14 @@ use Rattle.memory.specs.declared.log.Transaction.TheVariants.{Closed, Open}
 use Rattle.memory.specs.declared.place.Place.{Place}
 use Rattle.memory.specs.Logs.{marks_of}
 use Rattle.memory.specs.Meaning.{Meaning, live, standing, served, with_tx, wrote, recording}
-use Rattle.memory.proofs.Rooms.{room_some}
+use Rattle.memory.proofs.Rooms.{fitted_ok, room_some}
 use Rattle.inplace.specs.declared.inplace.InPlace.{InPlace}
 use Rattle.inplace.specs.Undo.{undo_log, distinct, undoes, written, tx_in}
 use Rattle.inplace.specs.Standing.{meant, meaning_of}
 use Rattle.inplace.proofs.Assigns.{stands_in, added_apart, added_cells, added_txs, free_after, served_again}
+use Rattle.inplace.proofs.Conflicts.{wrote_written}
 use Rattle.inplace.proofs.Means.{both}
+use Rattle.inplace.proofs.Opens.{write_new}
 use Rattle.inplace.proofs.Own.{own_at}
 
 -- n is the memory before the access and e the one after it, l the log of the card's transaction and g the one with
@@ -68,3 +71,6 @@ module _ (n e : InPlace) (p : Place) (l g : Log) (old : ℕ) (fits : p.cell < le
       ∙ (ap (λ us. with_tx (meaning_of e) p.card (tx us)) same
       ∙ (ap (λ (m : Meaning). with_tx m p.card (tx ws)) after
       ∙ served_again Writes p.card p.cell (tx_in n.cells (Open l)) (tx ws) (meaning_of n)))
+
+-- the first write by its parts, for the tactics
+pub ruleset firsts = (write_new, first_room, first_after, wrote_written, fitted_ok, length-map)

@@ -11,9 +11,11 @@ use Rattle.memory.specs.Meaning.{Meaning, Tx, Outcome, none, live, tx_of, in_ran
 use Rattle.memory.specs.Meaning.{accepted, refused, marking, replaced, value_in, wrote}
 use Rattle.memory.specs.Meaning.{reading, writing, committing, read_at, read_open, read_marking, write_at, write_open}
 use Rattle.memory.specs.Meaning.{commit_at, guarded, store_at, storing, with_cell}
+use Rattle.memory.proofs.Rooms.{fitted_ok, fitted_err}
 use Rattle.inplace.specs.declared.inplace.InPlace.{InPlace}
 use Rattle.inplace.specs.Undo.{undo_log, written}
 use Rattle.inplace.specs.Standing.{meaning_of, Opened}
+use Rattle.inplace.proofs.Restores.{written_value, unwritten_value}
 
 module _ (e n : InPlace) (p : Place) (card cell : ℕ) (l : Log)
     (at : (in_range card cell ≡ true) × (p.card ≡ card) × (p.cell ≡ cell)) (o : Opened e n p (Ok l)) where
@@ -88,3 +90,6 @@ store_free m p card cell value at =
     cond-true _ _ _ at.0
     ∙ (ap (store_at m card cell value) at.3
     ∙ (ap (λ x. store_at m x cell value none) (sym at.1) ∙ ap (λ x. store_at m p.card x value none) (sym at.2)))
+
+-- a read by its parts, for the tactics
+pub ruleset reads = (read_own, read_standing, read_full, written_value, unwritten_value, fitted_ok, fitted_err)

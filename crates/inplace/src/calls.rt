@@ -61,6 +61,7 @@ impl Memory for InPlace {
         Ok(())
     }
 
+    #[tactic(auto, using(crate::proofs::Opens::reads))]
     fn read(&mut self, card: usize, cell: usize) -> Result<u16, MemoryFault> {
         let place = Place::new(card, cell)?;
         let mut log = self.open(place)?;
@@ -79,6 +80,7 @@ impl Memory for InPlace {
     }
 
     // The first write of a cell keeps its old value.
+    #[tactic(auto, using(crate::proofs::Firsts::firsts))]
     fn write(&mut self, card: usize, cell: usize, value: u16) -> Result<(), MemoryFault> {
         let place = Place::new(card, cell)?;
         let log = self.open(place)?;

@@ -59,6 +59,7 @@ impl InPlace {
     }
 
     // Puts back what the card's transaction has written, and gives the card one that has written nothing.
+    #[tactic(auto, using(crate::proofs::Restores::restored_cells, crate::proofs::Restores::restored_txs, crate::proofs::Means::both))]
     pub(crate) fn restore(&mut self, place: Place, to: Transaction)
         requires bare { undo_of to ≡ [] }
         ensures { meaning_of self.new

@@ -1,5 +1,4 @@
 use Rattle.std.proofs.Common.{◌≡◌, ◌<◌, List, map, length, Ok, sym, ap, ◌∙◌, rules}
-use Rattle.std.proofs.lemmas.List.{length-map}
 use Rattle.memory.specs.declared.write.Write.{Write}
 use Rattle.memory.specs.declared.access.Access.TheVariants.{Writes}
 use Rattle.memory.specs.declared.log.Transaction.TheVariants.{Open}
@@ -9,10 +8,10 @@ use Rattle.memory.proofs.Rooms.{fitted_ok}
 use Rattle.inplace.specs.Undo.{undo_log, written}
 use Rattle.inplace.specs.Standing.{meaning_of}
 use Rattle.inplace.proofs.Assigns.{again_cells, again_txs, free_after, served_again}
-use Rattle.inplace.proofs.Firsts.{first_room, first_apart, first_after}
+use Rattle.inplace.proofs.Firsts.{first_apart}
 use Rattle.inplace.proofs.Conflicts.{wrote_written}
 use Rattle.inplace.proofs.Means.{both}
-use Rattle.inplace.proofs.Opens.{write_again, write_new}
+use Rattle.inplace.proofs.Opens.{write_again}
 use Rattle.inplace.proofs.Own.{own_at}
 use Rattle.inplace.proofs.calls.InPlaceMemory.write.Goals as goal
 
@@ -50,25 +49,3 @@ invariant_of-self-2-clause-apart c =
     first_apart c.open.new.self c.serve-2.new.self c.in_ok-place.place l g c.standing.result fits
     c.serve-2.ensures.after c.serve-2.ensures.own c.serve-2.ensures.written
     (sym c.wrote.ensures ∙ c.if-wrote.false) c.standing.ensures c.record.ensures.marks k
-
--- the first value for a cell
-pub returns-clause-after : goal.returns-clause-after
-returns-clause-after c =
-    let n = c.open.new.self in
-    let p = c.in_ok-place.place in
-    let l = c.in_ok-log.log in
-    let g = c.record.new.self in
-    let us = undo_log l in
-    let fresh = sym c.wrote.ensures ∙ c.if-wrote.false in
-    let fits : c.in_ok-place.place.cell < length c.serve-2.new.self.cells = search rules in
-    let q : c.record.result ≡ Ok tt = search rules in
-    let k = fitted_ok (writes_of l) (writes_of g) _ c.record.result tt c.record.ensures.writes q in
-    let room : length (map (written n.cells) us) < 4 =
-    rw (length-map us (written n.cells))
-    (first_room n c.serve-2.new.self p l g c.standing.result fits c.serve-2.ensures.after c.serve-2.ensures.own
-    c.serve-2.ensures.written fresh c.standing.ensures c.record.ensures.marks k) in
-    first_after n c.serve-2.new.self p l g c.standing.result fits c.serve-2.ensures.after c.serve-2.ensures.own
-    c.serve-2.ensures.written fresh c.standing.ensures c.record.ensures.marks k c.args.value
-    ∙ sym (ap (λ o. o.after)
-    (write_new c.args.self.now n p c.args.card c.args.cell l c.in_ok-place.ensures c.in_ok-log.ensures
-    c.args.value (wrote_written n.cells us p.cell ∙ fresh) room))
