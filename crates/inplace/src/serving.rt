@@ -50,6 +50,7 @@ impl InPlace {
         requires { cell < 137 }
         ensures { result ≡ standing (meaning_of self.now) cell }
     {
+        // No `find_map`, whose contract says how the calls ran and not what they find in a list.
         for tx in &self.txs {
             if let Some(old) = tx.value_of(cell) {
                 return old;
