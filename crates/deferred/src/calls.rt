@@ -33,7 +33,7 @@ impl Deferred {
         Ok(self.cells[place.cell])
     }
 
-    // The place of a call that wants no transaction.
+    // The place of a call that wants no transaction; each memory proves it of its own meaning.
     fn vacant(&self, card: usize, cell: usize) -> Result<Place, MemoryFault>
         ensures { Vacant (meaning_of self.now) card cell result }
     {

@@ -15,6 +15,7 @@ use Rattle.memory.specs.declared.log.Transaction.TheVariants.{Closed, Open, Doom
 use Rattle.memory.specs.Logs.{marks_of}
 use Rattle.inplace.specs.Undo.{undo_log, distinct, written, undo_of, undoes, tx_in}
 use Rattle.inplace.proofs.Conflicts.{wrote_written}
+use Rattle.inplace.proofs.Means.{both}
 use Rattle.inplace.proofs.Undoes.{lacks_head, lacks_append, distinct_head, distinct_left, distinct_right}
 use Rattle.inplace.proofs.Undoes.{distinct_other, distinct_without, Other, other_sym, other_left, other_parts}
 use Rattle.inplace.proofs.Undoes.{other_join, landed_set, landed_comm, landed_without, written_other}
@@ -107,6 +108,9 @@ module _ (cs : List ℕ) (ts : List Transaction) (i : ℕ) (t x : Transaction) (
       sym (map-set (tx_in cs) ts i x)
       ∙ (ap (map (tx_in cs)) (set_split ts i x h) ∙ map-append (tx_in cs) front (x ∷ rest)) in
       cc
+
+-- the same by the meaning's parts, for the tactics
+pub ruleset restores = (restored_cells, restored_txs, both)
 
 -- A transaction whose old values are let go: what it wrote stands.
 -- writes of other cells, whatever their values are

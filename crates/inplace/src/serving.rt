@@ -20,7 +20,7 @@ impl InPlace {
         self.txs[place.card]
     }
 
-    // The place of a call that wants no transaction.
+    // The place of a call that wants no transaction; each memory proves it of its own meaning.
     pub(crate) fn vacant(&self, card: usize, cell: usize) -> Result<Place, MemoryFault>
         ensures { Vacant (meaning_of self.now) card cell result }
     {
@@ -60,7 +60,7 @@ impl InPlace {
     }
 
     // Puts back what the card's transaction has written, and gives the card one that has written nothing.
-    #[tactic(auto, using(crate::proofs::Restores::restored_cells, crate::proofs::Restores::restored_txs, crate::proofs::Means::both))]
+    #[tactic(auto, using(crate::proofs::Restores::restores))]
     pub(crate) fn restore(&mut self, place: Place, to: Transaction)
         requires bare { undo_of to ≡ [] }
         ensures { meaning_of self.new

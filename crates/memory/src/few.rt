@@ -4,8 +4,8 @@ use crate::fault::Refusal;
 use crate::search::{Celled, find};
 use std::alloc::AllocError;
 
-// At most four records, in the order in which they came. The cards' records are copied out of a table, so the type is
-// Copy and counts in one byte.
+// At most four records, in the order in which they came. A type of our own and no `ArrayVec`: transactions are copied
+// out of a table, so this one is Copy and counts in one byte.
 #[derive(Copy)]
 pub struct Few<T> {
     pub(crate) items: [T; 4],

@@ -47,7 +47,7 @@ impl Log {
         Some(writes[at].value)
     }
 
-    // Marks the cell, once.
+    // Marks the cell, once. The cast keeps the number, as no place is past cell 136.
     pub fn mark(&mut self, place: Place) -> Result<(), Refusal>
         ensures marks { (result, marks_of self.new)
             ≡ fitted (marks_of self.old) (marking (marks_of self.old) place.cell) }
