@@ -1,2 +1,1 @@
-mod Writes
 mod Own

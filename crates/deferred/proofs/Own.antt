@@ -1,20 +1,23 @@
 -- An access in two parts: what it makes of the card's own transaction, and then of the others'.
 use Rattle.std.proofs.Common.{◌≡◌, ℕ, ◌<◌, true, List, map, length, get_or, set, Some, None, Ok, Err, Option, Result}
+use Rattle.std.proofs.Common.{inl, inr}
 use Rattle.std.proofs.Common.{sym, refl, ap, ◌∙◌, get_or-set_same, set-set}
 use lib.Seq.{map-set, set-get_or}
-use Rattle.std.proofs.lemmas.List.{length-map}
+use Rattle.std.proofs.lemmas.List.{get_or-map, length-map}
 use Rattle.std.proofs.lemmas.Bool.{cond-true}
 use Rattle.memory.specs.declared.access.Access.{Access}
 use Rattle.memory.specs.declared.access.Access.TheVariants.{Reads, Writes}
 use Rattle.memory.specs.declared.fault.Refusal.{Refusal}
 use Rattle.memory.specs.declared.fault.Refusal.TheVariants.{NoTransaction}
+use Rattle.memory.specs.declared.log.Log.{Log}
+use Rattle.memory.specs.declared.place.Place.{Place}
 use Rattle.memory.specs.declared.write.Write.{Write}
 use Rattle.memory.specs.Meaning.{Meaning, Outcome, Tx, none, live, doomed, struck, standing, marking, recording}
 use Rattle.memory.specs.Meaning.{accepted, refused, served, with_tx, value_in, tx_of, in_range, reading, writing}
-use Rattle.memory.specs.Meaning.{read_at, read_open, read_marking, write_at, write_open}
-use Rattle.deferred.specs.declared.log.Transaction.{Transaction}
-use Rattle.deferred.specs.Deferral.{tx_in}
-use Rattle.deferred.specs.Own.{own_read, own_read_open, own_marking, own_write, own_write_open}
+use Rattle.memory.specs.Meaning.{read_at, read_open, read_marking, write_at, write_open, landed, commit_at, committing}
+use Rattle.memory.specs.declared.log.Transaction.{Transaction}
+use Rattle.memory.specs.Logs.{writes_of, tx_kept}
+use Rattle.deferred.specs.Own.{Taken, own_read, own_read_open, own_marking, own_write, own_write_open}
 
 -- the whole access, by the answer of the first part and the card's transaction after it
 abbrev pub finished : {X : Type 0} → Access → Meaning → ℕ → ℕ → Tx → Result X Refusal → Outcome X
@@ -73,25 +76,50 @@ others_after_own how cell card ts t h =
 
 -- the same of the records
 pub struck_after_own : (how : Access) (cell card : ℕ) (txs : List Transaction) (x : Transaction) → card < length txs
-    → set (map (struck how cell) (map tx_in (set txs card x))) card (get_or (map tx_in (set txs card x)) card none)
-    ≡ set (map (struck how cell) (map tx_in txs)) card (tx_in x)
+    → set (map (struck how cell) (map tx_kept (set txs card x))) card (get_or (map tx_kept (set txs card x)) card none)
+    ≡ set (map (struck how cell) (map tx_kept txs)) card (tx_kept x)
 struck_after_own how cell card txs x h =
-    ap (λ l. set (map (struck how cell) l) card (get_or l card none)) (map-set tx_in txs card x)
-    ∙ others_after_own how cell card (map tx_in txs) (tx_in x) (rw (length-map txs tx_in) h)
+    ap (λ l. set (map (struck how cell) l) card (get_or l card none)) (map-set tx_kept txs card x)
+    ∙ others_after_own how cell card (map tx_kept txs) (tx_kept x) (rw (length-map txs tx_kept) h)
 
 -- a read in range, by its first part
-pub reading_by : (m : Meaning) (card cell : ℕ) (t : Tx) (r : Result ℕ Refusal) → in_range card cell ≡ true
-    → (r, t) ≡ own_read (tx_of m card) cell (standing m cell)
+pub reading_by : (m : Meaning) (p : Place) (card cell : ℕ) (t : Tx) (r : Result ℕ Refusal)
+    → (in_range card cell ≡ true) × (p.card ≡ card) × (p.cell ≡ cell)
+    → (r, t) ≡ own_read (tx_of m card) p.cell (standing m cell)
     → reading m card cell ≡ finished Reads m card cell t r
-reading_by m card cell t r h e =
-    cond-true _ _ _ h
-    ∙ (read_finished m card cell (tx_of m card) refl ∙ ap (λ p. finished Reads m card cell p.1 p.0) (sym e))
+reading_by m p card cell t r h e =
+    cond-true _ _ _ h.0
+    ∙ (read_finished m card cell (tx_of m card) refl
+    ∙ ap (λ q. finished Reads m card cell q.1 q.0)
+    (sym (e ∙ ap (λ c. own_read (tx_of m card) c (standing m cell)) h.2)))
 
 -- a write in range, by its first part
-pub writing_by : (m : Meaning) (card cell value : ℕ) (t : Tx) (r : Result (Unit {0}) Refusal)
-    → in_range card cell ≡ true → (r, t) ≡ own_write (tx_of m card) cell value
+pub writing_by : (m : Meaning) (p : Place) (card cell value : ℕ) (t : Tx) (r : Result (Unit {0}) Refusal)
+    → (in_range card cell ≡ true) × (p.card ≡ card) × (p.cell ≡ cell)
+    → (r, t) ≡ own_write (tx_of m card) p.cell value
     → writing m card cell value ≡ finished Writes m card cell t r
-writing_by m card cell value t r h e =
-    cond-true _ _ _ h
+writing_by m p card cell value t r h e =
+    cond-true _ _ _ h.0
     ∙ (write_finished m card cell value (tx_of m card) refl
-    ∙ ap (λ p. finished Writes m card cell p.1 p.0) (sym e))
+    ∙ ap (λ q. finished Writes m card cell q.1 q.0) (sym (e ∙ ap (λ c. own_write (tx_of m card) c value) h.2)))
+
+-- what a commit leaves, by what was taken
+abbrev pub committed : Meaning → ℕ → Result Log Refusal → Outcome (Unit {0})
+committed m card (Ok l) = accepted tt (record { cells = landed m.cells (writes_of l); txs = set m.txs card none })
+committed m card (Err f) = refused f card 0 (with_tx m card none)
+
+-- a commit in range, by what was taken
+pub committing_by : (m : Meaning) (card : ℕ) (r : Result Log Refusal) → in_range card 0 ≡ true
+    → Taken (tx_of m card) r → committing m card ≡ committed m card r
+committing_by m card (Ok l) h e = cond-true _ _ _ h ∙ ap (commit_at m card) e
+committing_by m card (Err f) h (inl e) =
+    cond-true _ _ _ h
+    ∙ (ap (commit_at m card) e.0
+    ∙ (ap (λ x. refused NoTransaction card 0 x) (same_tx m card none e.0)
+    ∙ ap (λ g. refused g card 0 (with_tx m card none)) (sym e.1)))
+committing_by m card (Err f) h (inr e) =
+    cond-true _ _ _ h
+    ∙ (ap (commit_at m card) e.0 ∙ ap (λ g. refused g card 0 (with_tx m card none)) (sym e.1))
+
+-- the parts of an access, and a card's record where it is read and where it is put, for the tactics
+pub ruleset parts = (map-set, get_or-map, reading_by, writing_by, committing_by, struck_after_own)

@@ -1,15 +1,17 @@
 -- What an access makes of the card's own transaction, whatever it does to others: the answer, and the transaction
 -- after it. A refusal that is not for want of a transaction closes it.
-use Rattle.std.specs.Prelude.{ℕ, List, Some, None, Ok, Err, Option, Result}
+use Rattle.std.specs.Prelude.{◌≡◌, ◌⊎◌, ℕ, List, Some, None, Ok, Err, Option, Result}
 use Rattle.memory.specs.declared.fault.Refusal.{Refusal}
 use Rattle.memory.specs.declared.fault.Refusal.TheVariants.{NoTransaction, Doomed, Full}
+use Rattle.memory.specs.declared.log.Log.{Log}
 use Rattle.memory.specs.declared.write.Write.{Write}
+use Rattle.memory.specs.Logs.{marks_of, writes_of}
 use Rattle.memory.specs.Meaning.{Tx, none, live, doomed, marking, recording, value_in}
 
--- a read that answers a value leaves the transaction open; one that has none to answer found it full
-abbrev pub read_by : Option ℕ → List ℕ → List Write → Result ℕ Refusal × Tx
-read_by (Some v) ms ws = (Ok v, live ms ws)
-read_by None ms ws = (Err Full, none)
+-- the log of a transaction, or why there is none to go on with
+abbrev pub Taken : Tx → Result Log Refusal → Type 0
+Taken t (Ok l) = t ≡ live (marks_of l) (writes_of l)
+Taken t (Err f) = ((t ≡ none) × (f ≡ NoTransaction)) ⊎ ((t ≡ doomed) × (f ≡ Doomed))
 
 -- a read of a cell that is not written: the standing value, and a mark
 abbrev pub own_marking : List Write → ℕ → Option (List ℕ) → Result ℕ Refusal × Tx

@@ -1,15 +1,18 @@
-ghost use Rattle.std.specs.Prelude.{◌≡◌, ◌<◌};
-ghost use Rattle.memory.specs.Meaning.{cleared, looking, with_tx};
-ghost use Rattle.deferred.specs.Deferral.{tx_in, meaning_of, Fetched};
+ghost use Rattle.std.specs.Prelude.{◌≡◌};
+ghost use Rattle.memory.specs.Logs.{Vacant};
+ghost use Rattle.memory.specs.Meaning.{cleared, looking};
+ghost use Rattle.deferred.specs.Deferral.{meaning_of};
 
 use crate::deferred::Deferred;
 use crate::doom::doom;
-use crate::land::land;
-use crate::log::{Log, Transaction};
+use crate::own_tx;
 use memory::access::Access;
 use memory::fault::{MemoryFault, Refusal};
+use memory::land::land;
+use memory::log::{Log, Transaction};
 use memory::memory::Memory;
-use memory::range::check_range;
+use memory::place::Place;
+use std::mem;
 
 impl Deferred {
     // A memory newly made: every cell 0, no transaction.
@@ -26,24 +29,19 @@ impl Deferred {
     pub fn held(&self, cell: usize) -> Result<u16, MemoryFault>
         ensures { result ≡ looking (meaning_of self.now) cell }
     {
-        check_range(0, cell)?;
-        Ok(self.cells[cell])
+        let place = Place::new(0, cell)?;
+        Ok(self.cells[place.cell])
     }
 
-    // The card's transaction, for a call at a cell.
-    fn transaction(&self, card: usize, cell: usize) -> Result<Transaction, MemoryFault>
-        ensures { Fetched self.now card cell result }
+    // The place of a call that wants no transaction; each memory proves it of its own meaning.
+    fn vacant(&self, card: usize, cell: usize) -> Result<Place, MemoryFault>
+        ensures { Vacant (meaning_of self.now) card cell result }
     {
-        check_range(card, cell)?;
-        Ok(self.txs[card])
-    }
-
-    // Gives the card another transaction.
-    fn put(&mut self, card: usize, tx: Transaction)
-        requires { card < 8 }
-        ensures { meaning_of self.new ≡ with_tx (meaning_of self.old) card (tx_in tx) }
-    {
-        self.txs[card] = tx;
+        let place = Place::new(card, cell)?;
+        self.txs[card]
+            .closed()
+            .map_err(|refusal| place.refuse(refusal))?;
+        Ok(place)
     }
 }
 
@@ -51,8 +49,7 @@ impl Memory for Deferred {
     ghost meaning = { meaning_of };
 
     fn clear(&mut self) {
-        self.cells = [0u16; 137];
-        self.txs = [Transaction::Closed; 8];
+        *self = Self::new();
     }
 
     fn look(&self, cell: usize) -> Result<u16, MemoryFault> {
@@ -60,83 +57,59 @@ impl Memory for Deferred {
     }
 
     fn load(&mut self, card: usize, cell: usize) -> Result<u16, MemoryFault> {
-        match self.transaction(card, cell)? {
-            Transaction::Closed => {
-                let value = self.cells[cell];
-                doom(&mut self.txs, card, Access::Reads, cell);
-                Ok(value)
-            }
-            Transaction::Open(_) | Transaction::Doomed => Err(Refusal::Already.at(card, cell)),
-        }
+        self.vacant(card, cell)?;
+        let value = self.cells[cell];
+        doom(&mut self.txs, card, Access::Reads, cell);
+        Ok(value)
     }
 
     fn store(&mut self, card: usize, cell: usize, value: u16) -> Result<(), MemoryFault> {
-        match self.transaction(card, cell)? {
-            Transaction::Closed => {
-                doom(&mut self.txs, card, Access::Writes, cell);
-                self.cells[cell] = value;
-                Ok(())
-            }
-            Transaction::Open(_) | Transaction::Doomed => Err(Refusal::Already.at(card, cell)),
-        }
+        self.vacant(card, cell)?;
+        doom(&mut self.txs, card, Access::Writes, cell);
+        self.cells[cell] = value;
+        Ok(())
     }
 
+    #[tactic(auto, using(crate::proofs::Own::parts))]
     fn begin(&mut self, card: usize) -> Result<(), MemoryFault> {
-        match self.transaction(card, 0)? {
-            Transaction::Closed => {
-                self.put(card, Transaction::Open(Log::new()));
-                Ok(())
-            }
-            Transaction::Open(_) | Transaction::Doomed => Err(Refusal::Already.at(card, 0)),
-        }
+        self.vacant(card, 0)?;
+        self.txs[card] = Transaction::Open(Log::new());
+        Ok(())
     }
 
-    // The cast keeps the number, which is below 137.
+    #[tactic(auto, using(crate::proofs::Own::parts))]
     fn read(&mut self, card: usize, cell: usize) -> Result<u16, MemoryFault> {
-        check_range(card, cell)?;
+        let place = Place::new(card, cell)?;
         let standing = self.cells[cell];
-        match self.txs[card].read(cell as u8, standing) {
-            Ok(value) => {
-                doom(&mut self.txs, card, Access::Reads, cell);
-                Ok(value)
-            }
-            Err(refusal) => Err(refusal.at(card, cell)),
-        }
+        let value = own_tx::read(&mut self.txs[card], place, standing).map_err(
+            |refusal| place.refuse(refusal),
+        )?;
+        doom(&mut self.txs, card, Access::Reads, cell);
+        Ok(value)
     }
 
+    #[tactic(auto, using(crate::proofs::Own::parts))]
     fn write(&mut self, card: usize, cell: usize, value: u16) -> Result<(), MemoryFault> {
-        check_range(card, cell)?;
-        match self.txs[card].write(cell as u8, value) {
-            Ok(()) => {
-                doom(&mut self.txs, card, Access::Writes, cell);
-                Ok(())
-            }
-            Err(refusal) => Err(refusal.at(card, cell)),
-        }
+        let place = Place::new(card, cell)?;
+        own_tx::write(&mut self.txs[card], place, value).map_err(|refusal| place.refuse(refusal))?;
+        doom(&mut self.txs, card, Access::Writes, cell);
+        Ok(())
     }
 
+    #[tactic(auto, using(crate::proofs::Own::parts))]
     fn commit(&mut self, card: usize) -> Result<(), MemoryFault> {
-        match self.transaction(card, 0)? {
-            Transaction::Closed => Err(Refusal::NoTransaction.at(card, 0)),
-            Transaction::Open(log) => {
-                land(&mut self.cells, log.writes());
-                self.put(card, Transaction::Closed);
-                Ok(())
-            }
-            Transaction::Doomed => {
-                self.put(card, Transaction::Closed);
-                Err(Refusal::Doomed.at(card, 0))
-            }
-        }
+        let place = Place::new(card, 0)?;
+        let log = own_tx::take(&mut self.txs[card]).map_err(|refusal| place.refuse(refusal))?;
+        land(&mut self.cells, log.writes());
+        Ok(())
     }
 
+    #[tactic(auto, using(crate::proofs::Own::parts))]
     fn drop(&mut self, card: usize) -> Result<(), MemoryFault> {
-        match self.transaction(card, 0)? {
-            Transaction::Closed => Err(Refusal::NoTransaction.at(card, 0)),
-            Transaction::Open(_) | Transaction::Doomed => {
-                self.put(card, Transaction::Closed);
-                Ok(())
-            }
+        let place = Place::new(card, 0)?;
+        match mem::replace(&mut self.txs[card], Transaction::Closed) {
+            Transaction::Closed => Err(place.refuse(Refusal::NoTransaction)),
+            Transaction::Open(_) | Transaction::Doomed => Ok(()),
         }
     }
 }

@@ -1,4 +1,4 @@
-use crate::log::Transaction;
+use memory::log::Transaction;
 
 // A memory that sets written values aside until the commit. Its cells are the standing values.
 #[derive(Drop)]

@@ -4,6 +4,4 @@
 pub mod calls;
 pub mod deferred;
 pub(crate) mod doom;
-pub(crate) mod land;
-pub(crate) mod log;
-pub(crate) mod logging;
+pub(crate) mod own_tx;

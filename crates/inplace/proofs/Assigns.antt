@@ -10,14 +10,15 @@ use Rattle.memory.specs.declared.write.Write.{Write}
 use Rattle.memory.specs.declared.access.Access.{Access}
 use Rattle.memory.specs.Meaning.{Tx, Meaning, none, live, landed, wrote, replaced, struck, served, with_tx}
 use Rattle.memory.proofs.Isolation.{clash}
-use Rattle.inplace.specs.declared.log.Log.{Log}
-use Rattle.inplace.specs.declared.log.Transaction.{Transaction}
-use Rattle.inplace.specs.declared.log.Transaction.TheVariants.{Closed, Open}
+use Rattle.memory.specs.declared.log.Log.{Log}
+use Rattle.memory.specs.declared.log.Transaction.{Transaction}
+use Rattle.memory.specs.declared.log.Transaction.TheVariants.{Closed, Open}
 use Rattle.inplace.specs.declared.inplace.InPlace.{InPlace}
-use Rattle.inplace.specs.Undo.{marks_in, undo_log, distinct, written, undo_of, undoes, tx_in}
+use Rattle.memory.specs.Logs.{marks_of}
+use Rattle.inplace.specs.Undo.{undo_log, distinct, written, undo_of, undoes, tx_in}
 use Rattle.inplace.specs.Standing.{meaning_of}
 use Rattle.inplace.proofs.Undoes.{lacks_left, lacks_right, lacks_append, distinct_head, distinct_left}
-use Rattle.inplace.proofs.Undoes.{distinct_right, distinct_insert, landed_without, other_sym, written_other}
+use Rattle.inplace.proofs.Undoes.{distinct_right, distinct_insert, landed_without, landed_other, other_sym, written_other}
 use Rattle.inplace.proofs.Restores.{undoes_append, txs_other, lack_map, lack_set, lack_undoes, Lack}
 
 -- Cells that writes have.
@@ -169,16 +170,30 @@ module _ (cs : List ℕ) (ts : List Transaction) (i : ℕ) (l : Log) (c v : ℕ)
 
     -- the card's own write has the new value
     pub again_txs : map (tx_in (set cs c v)) ts
-        ≡ set (map (tx_in cs) ts) i (live (marks_in l) (replaced (map (written cs) own) c v))
+        ≡ set (map (tx_in cs) ts) i (live (marks_of l) (replaced (map (written cs) own) c v))
     again_txs =
         let u : distinct own ≡ true =
         distinct_left own rest (distinct_right front (own ++ rest) (ap distinct (sym whole) ∙ d)) in
         ap (map (tx_in (set cs c v))) (sym same)
         ∙ (txs_put (Open l)
-        ∙ ap (λ ws. set (map (tx_in cs) ts) i (live (marks_in l) ws)) (written_again cs own c v fits u known))
+        ∙ ap (λ ws. set (map (tx_in cs) ts) i (live (marks_of l) ws)) (written_again cs own c v fits u known))
 
-  -- a cell that it lacks: the old value is kept, in the log g
-  module _ (g : Log) (fresh : wrote own c ≡ false) (fits : c < length cs) (marks : marks_in g ≡ marks_in l)
+  -- a cell that it lacks
+  module _ (fresh : wrote own c ≡ false) where
+    -- all old values again
+    shorter : undoes ts ≡ (front ++ own) ++ rest
+    shorter = whole ∙ sym (append_assoc front own rest)
+
+    -- no card has kept one of c before
+    lack_all : wrote ((front ++ own) ++ rest) c ≡ false
+    lack_all = lacks_append (front ++ own) rest c (lacks_append front own c lack_front fresh) lack_rest
+
+    -- so the standing value is in the cell
+    pub stands_in : get_or (landed cs (undoes ts)) c 0 ≡ get_or cs c 0
+    stands_in = landed_other cs (undoes ts) c (ap (λ us. wrote us c) shorter ∙ lack_all)
+
+  -- the old value of it is kept, in the log g
+  module _ (g : Log) (fresh : wrote own c ≡ false) (fits : c < length cs) (marks : marks_of g ≡ marks_of l)
       (more : undo_log g ≡ own ++ record { cell = c; value = get_or cs c 0 } ∷ []) where
     -- the write that puts the old value back
     abbrev old : Write
@@ -191,17 +206,9 @@ module _ (cs : List ℕ) (ts : List Transaction) (i : ℕ) (l : Log) (c v : ℕ)
         ∙ (ap (λ us. front ++ (us ++ rest)) more
         ∙ (ap (λ us. front ++ us) (append_assoc own (old ∷ []) rest) ∙ sym (append_assoc front own (old ∷ rest))))
 
-    -- and without it
-    shorter : undoes ts ≡ (front ++ own) ++ rest
-    shorter = whole ∙ sym (append_assoc front own rest)
-
-    -- no card has kept one of c before
-    lack_all : wrote ((front ++ own) ++ rest) c ≡ false
-    lack_all = lacks_append (front ++ own) rest c (lacks_append front own c lack_front fresh) lack_rest
-
     -- no two of them are of one cell
     more_distinct : distinct ((front ++ own) ++ (old ∷ rest)) ≡ true
-    more_distinct = distinct_insert (front ++ own) rest old lack_all (ap distinct (sym shorter) ∙ d)
+    more_distinct = distinct_insert (front ++ own) rest old (lack_all fresh) (ap distinct (sym (shorter fresh)) ∙ d)
 
     -- which the memory keeps so
     pub added_apart : distinct (undoes (set ts i (Open g))) ≡ true
@@ -215,17 +222,17 @@ module _ (cs : List ℕ) (ts : List Transaction) (i : ℕ) (l : Log) (c v : ℕ)
         ap (landed (set cs c v)) longer
         ∙ (landed_over cs ((front ++ own) ++ (old ∷ rest)) c v has
         ∙ (landed_without cs (front ++ own) (old ∷ []) rest more_distinct
-        ∙ (ap (λ z. landed z ((front ++ own) ++ rest)) (set-get_or cs c 0) ∙ ap (landed cs) (sym shorter))))
+        ∙ (ap (λ z. landed z ((front ++ own) ++ rest)) (set-get_or cs c 0) ∙ ap (landed cs) (sym (shorter fresh)))))
 
     -- the card's own transaction has one write more
     pub added_txs : map (tx_in (set cs c v)) (set ts i (Open g))
         ≡ set (map (tx_in cs) ts) i
-        (live (marks_in l) (map (written cs) own ++ record { cell = c; value = v } ∷ []))
+        (live (marks_of l) (map (written cs) own ++ record { cell = c; value = v } ∷ []))
     added_txs =
         let put = λ (ms : List ℕ) (ws : List Write). set (map (tx_in cs) ts) i (live ms ws) in
         let e = ap (map (written (set cs c v))) more ∙ written_more cs own c v (get_or cs c 0) fits fresh in
         txs_put (Open g)
-        ∙ (ap (λ ms. put ms (map (written (set cs c v)) (undo_log g))) marks ∙ ap (put (marks_in l)) e)
+        ∙ (ap (λ ms. put ms (map (written (set cs c v)) (undo_log g))) marks ∙ ap (put (marks_of l)) e)
 
 -- another transaction of the card after an access
 pub served_again : (a : Access) (card cell : ℕ) (old own : Tx) (m : Meaning)

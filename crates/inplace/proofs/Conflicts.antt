@@ -4,9 +4,10 @@ use Rattle.memory.specs.declared.write.Write.{Write}
 use Rattle.memory.specs.declared.access.Access.{Access}
 use Rattle.memory.specs.declared.access.Access.TheVariants.{Reads, Writes}
 use Rattle.memory.specs.Meaning.{conflicts, wrote, marked}
-use Rattle.inplace.specs.declared.log.Transaction.{Transaction}
-use Rattle.inplace.specs.declared.log.Transaction.TheVariants.{Closed, Open, Doomed}
-use Rattle.inplace.specs.Undo.{marks_in, undo_log, written, tx_in, tx_kept}
+use Rattle.memory.specs.declared.log.Transaction.{Transaction}
+use Rattle.memory.specs.declared.log.Transaction.TheVariants.{Closed, Open, Doomed}
+use Rattle.memory.specs.Logs.{marks_of, tx_kept}
+use Rattle.inplace.specs.Undo.{undo_log, written, tx_in}
 
 -- the cells that are written
 pub wrote_written : (cs : List ℕ) (us : List Write) (cell : ℕ) → wrote (map (written cs) us) cell ≡ wrote us cell
@@ -19,5 +20,5 @@ pub conflicts_in : (cs : List ℕ) (a : Access) (cell : ℕ) (t : Transaction)
 conflicts_in cs a cell Closed = refl
 conflicts_in cs Reads cell (Open l) = wrote_written cs (undo_log l) cell
 conflicts_in cs Writes cell (Open l) =
-    ap (λ b. b || marked (marks_in l) cell) (wrote_written cs (undo_log l) cell)
+    ap (λ b. b || marked (marks_of l) cell) (wrote_written cs (undo_log l) cell)
 conflicts_in cs a cell Doomed = refl

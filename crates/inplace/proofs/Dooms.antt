@@ -7,9 +7,10 @@ use Rattle.std.proofs.lemmas.Bool.{cond-true, cond-false}
 use Rattle.memory.specs.declared.access.Access.{Access}
 use Rattle.memory.specs.Meaning.{Meaning, Tx, none, live, doomed, struck, served, conflicts, landed, tx_of}
 use Rattle.memory.proofs.Woven.{woven, others, others_set, others_kept, others_all}
-use Rattle.inplace.specs.declared.log.Transaction.{Transaction}
-use Rattle.inplace.specs.declared.log.Transaction.TheVariants.{Closed, Open, Doomed}
-use Rattle.inplace.specs.Undo.{marks_in, distinct, written, undo_of, undoes, tx_in, tx_kept}
+use Rattle.memory.specs.declared.log.Transaction.{Transaction}
+use Rattle.memory.specs.declared.log.Transaction.TheVariants.{Closed, Open, Doomed}
+use Rattle.memory.specs.Logs.{marks_of, tx_kept}
+use Rattle.inplace.specs.Undo.{distinct, written, undo_of, undoes, tx_in}
 use Rattle.inplace.specs.Standing.{meant, dooming}
 use Rattle.inplace.proofs.Conflicts.{conflicts_in}
 use Rattle.inplace.proofs.Means.{both}
@@ -95,7 +96,7 @@ values_of cs ds Doomed e = refl
 tx_by : (cs ds : List ℕ) (t : Transaction) → map (written cs) (undo_of t) ≡ map (written ds) (undo_of t)
     → tx_in cs t ≡ tx_in ds t
 tx_by cs ds Closed e = refl
-tx_by cs ds (Open l) e = ap (live (marks_in l)) e
+tx_by cs ds (Open l) e = ap (live (marks_of l)) e
 tx_by cs ds Doomed e = refl
 
 module _ (a : Access) (card cell : ℕ) (cells cs : List ℕ) (txs ts : List Transaction) (own : Transaction)

@@ -1,8 +1,9 @@
 mod Assigns
 mod Conflicts
 mod Dooms
+mod Firsts
 mod Means
+mod Opens
 mod Own
 mod Restores
-mod Saves
 mod Undoes

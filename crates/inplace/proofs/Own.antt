@@ -2,8 +2,8 @@
 use Rattle.std.proofs.Common.{◌≡◌, ℕ, ◌<◌, List, length, get_or, sym, ◌∙◌, arith}
 use Rattle.std.proofs.lemmas.List.{get_or_default}
 use Rattle.inplace.specs.declared.inplace.InPlace.{InPlace}
-use Rattle.inplace.specs.declared.log.Transaction.{Transaction}
-use Rattle.inplace.specs.declared.log.Transaction.TheVariants.{Closed}
+use Rattle.memory.specs.declared.log.Transaction.{Transaction}
+use Rattle.memory.specs.declared.log.Transaction.TheVariants.{Closed}
 
 -- it is the same whatever is taken for a place past the end
 pub own_is : (ts : List Transaction) (i : ℕ) (t : Transaction) → i < length ts → get_or ts i Closed ≡ t

@@ -10,10 +10,12 @@ use Rattle.memory.specs.declared.access.Access.{Access}
 use Rattle.memory.specs.Meaning.{Tx, live, landed, struck, wrote, value_in}
 use Rattle.memory.specs.Isolation.{has_written}
 use Rattle.memory.proofs.Isolation.{clash, struck_unwritten}
-use Rattle.inplace.specs.declared.log.Transaction.{Transaction}
-use Rattle.inplace.specs.declared.log.Transaction.TheVariants.{Closed, Open, Doomed}
-use Rattle.inplace.specs.Undo.{marks_in, undo_log, distinct, written, undo_of, undoes, tx_in}
+use Rattle.memory.specs.declared.log.Transaction.{Transaction}
+use Rattle.memory.specs.declared.log.Transaction.TheVariants.{Closed, Open, Doomed}
+use Rattle.memory.specs.Logs.{marks_of}
+use Rattle.inplace.specs.Undo.{undo_log, distinct, written, undo_of, undoes, tx_in}
 use Rattle.inplace.proofs.Conflicts.{wrote_written}
+use Rattle.inplace.proofs.Means.{both}
 use Rattle.inplace.proofs.Undoes.{lacks_head, lacks_append, distinct_head, distinct_left, distinct_right}
 use Rattle.inplace.proofs.Undoes.{distinct_other, distinct_without, Other, other_sym, other_left, other_parts}
 use Rattle.inplace.proofs.Undoes.{other_join, landed_set, landed_comm, landed_without, written_other}
@@ -29,7 +31,7 @@ undoes_append (t ∷ ts) us =
 tx_other : (cs : List ℕ) (us : List Write) (t : Transaction) → Other (undo_of t) us
     → tx_in (landed cs us) t ≡ tx_in cs t
 tx_other cs us Closed a = refl
-tx_other cs us (Open l) a = ap (live (marks_in l)) (written_other cs us (undo_log l) a)
+tx_other cs us (Open l) a = ap (live (marks_of l)) (written_other cs us (undo_log l) a)
 tx_other cs us Doomed a = refl
 
 -- nor do several, none of which keeps any of them
@@ -46,8 +48,8 @@ txs_other cs us (t ∷ ts) a =
 tx_bare : (cs ds : List ℕ) (x : Transaction) → undo_of x ≡ [] → tx_in cs x ≡ tx_in ds x
 tx_bare cs ds Closed e = refl
 tx_bare cs ds (Open l) e =
-    ap (λ us. live (marks_in l) (map (written cs) us)) e
-    ∙ sym (ap (λ us. live (marks_in l) (map (written ds) us)) e)
+    ap (λ us. live (marks_of l) (map (written cs) us)) e
+    ∙ sym (ap (λ us. live (marks_of l) (map (written ds) us)) e)
 tx_bare cs ds Doomed e = refl
 
 -- A transaction t at i gives way to one that has written nothing, and its old values are put back.
@@ -106,6 +108,9 @@ module _ (cs : List ℕ) (ts : List Transaction) (i : ℕ) (t x : Transaction) (
       sym (map-set (tx_in cs) ts i x)
       ∙ (ap (map (tx_in cs)) (set_split ts i x h) ∙ map-append (tx_in cs) front (x ∷ rest)) in
       cc
+
+-- the same by the meaning's parts, for the tactics
+pub ruleset restores = (restored_cells, restored_txs, both)
 
 -- A transaction whose old values are let go: what it wrote stands.
 -- writes of other cells, whatever their values are

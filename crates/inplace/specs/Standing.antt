@@ -1,13 +1,15 @@
 -- What a memory that writes in place means: the old values, put back, are the standing ones.
-use Rattle.std.specs.Prelude.{◌≡◌, ℕ, ◌<◌, false, cond, List, map, Ok, Err, Result, nat_lt, slice_index}
+use Rattle.std.specs.Prelude.{◌≡◌, ℕ, cond, List, map, Ok, Err, Result, nat_lt, slice_index}
 use Rattle.std.specs.Prelude.{slice_index_or}
 use Rattle.memory.specs.declared.fault.MemoryFault.{MemoryFault}
 use Rattle.memory.specs.declared.fault.Refusal.TheVariants.{OutOfRange}
 use Rattle.memory.specs.declared.access.Access.{Access}
-use Rattle.memory.specs.Meaning.{Meaning, landed, tx_of, in_range, served}
+use Rattle.memory.specs.Meaning.{Meaning, landed, tx_of, served, reading, writing, committing}
 use Rattle.inplace.specs.Undo.{undoes, tx_in}
-use Rattle.inplace.specs.declared.log.Transaction.{Transaction}
-use Rattle.inplace.specs.declared.log.Transaction.TheVariants.{Closed}
+use Rattle.memory.specs.declared.log.Log.{Log}
+use Rattle.memory.specs.declared.log.Transaction.{Transaction}
+use Rattle.memory.specs.declared.place.Place.{Place}
+use Rattle.memory.specs.declared.log.Transaction.TheVariants.{Closed, Open}
 use Rattle.inplace.specs.declared.inplace.InPlace.{InPlace}
 
 -- the meaning of cells and records
@@ -28,9 +30,14 @@ holding e cell =
 abbrev pub dooming : Access → ℕ → ℕ → Meaning → Meaning
 dooming a card cell m = served a card cell (tx_of m card) m
 
--- a card's transaction as it is looked up, or the refusal of a card or a cell that no memory has
-abbrev pub Fetched : InPlace → ℕ → ℕ → Result Transaction MemoryFault → Type 0
-Fetched e card cell (Ok t) =
-    (card < 8) × (cell < 137) × (tx_of (meaning_of e) card ≡ tx_in e.cells t) × (slice_index_or e.txs card Closed ≡ t)
-Fetched e card cell (Err f) =
-    (in_range card cell ≡ false) × (f ≡ record { refusal = OutOfRange; card = card; cell = cell })
+-- a card's transaction as it is looked up
+abbrev pub Fetched : InPlace → Place → Transaction → Type 0
+Fetched e p t = (tx_of (meaning_of e) p.card ≡ tx_in e.cells t) × (slice_index_or e.txs p.card Closed ≡ t)
+
+-- the log of a card's open transaction, where the meaning stays; or the refusal of every call that wants one
+abbrev pub Opened : InPlace → InPlace → Place → Result Log MemoryFault → Type 0
+Opened e n p (Ok l) = (meaning_of n ≡ meaning_of e) × Fetched n p (Open l)
+Opened e n p (Err f) =
+    (reading (meaning_of e) p.card p.cell ≡ record { answer = Err f; after = meaning_of n })
+    × ((value : ℕ) → writing (meaning_of e) p.card p.cell value ≡ record { answer = Err f; after = meaning_of n })
+    × (p.cell ≡ 0 → committing (meaning_of e) p.card ≡ record { answer = Err f; after = meaning_of n })

@@ -3,11 +3,11 @@ ghost use Rattle.memory.specs.Meaning.{cleared};
 ghost use Rattle.inplace.specs.Standing.{meaning_of, holding};
 
 use crate::inplace::InPlace;
-use crate::log::{Log, Transaction};
 use memory::access::Access;
 use memory::fault::{MemoryFault, Refusal};
+use memory::log::{Log, Transaction};
 use memory::memory::Memory;
-use memory::range::check_range;
+use memory::place::Place;
 
 impl InPlace {
     // A memory newly made: every cell 0, no transaction.
@@ -24,8 +24,8 @@ impl InPlace {
     pub fn held(&self, cell: usize) -> Result<u16, MemoryFault>
         ensures { result ≡ holding self.now cell }
     {
-        check_range(0, cell)?;
-        Ok(self.cells[cell])
+        let place = Place::new(0, cell)?;
+        Ok(self.cells[place.cell])
     }
 }
 
@@ -33,87 +33,87 @@ impl Memory for InPlace {
     ghost meaning = { meaning_of };
 
     fn clear(&mut self) {
-        self.cells = [0u16; 137];
-        self.txs = [Transaction::Closed; 8];
+        *self = Self::new();
     }
 
     fn look(&self, cell: usize) -> Result<u16, MemoryFault> {
-        check_range(0, cell)?;
-        Ok(self.standing(cell))
+        let place = Place::new(0, cell)?;
+        Ok(self.standing(place.cell))
     }
 
     fn load(&mut self, card: usize, cell: usize) -> Result<u16, MemoryFault> {
-        match self.transaction(card, cell)? {
-            Transaction::Closed => {
-                let value = self.standing(cell);
-                self.serve(Access::Reads, card, cell, Transaction::Closed);
-                Ok(value)
-            }
-            Transaction::Open(_) | Transaction::Doomed => Err(Refusal::Already.at(card, cell)),
-        }
+        let place = self.vacant(card, cell)?;
+        let value = self.standing(place.cell);
+        self.serve(Access::Reads, place, Transaction::Closed);
+        Ok(value)
     }
 
     fn store(&mut self, card: usize, cell: usize, value: u16) -> Result<(), MemoryFault> {
-        match self.transaction(card, cell)? {
-            Transaction::Closed => {
-                self.store_closed(card, cell, value);
-                Ok(())
-            }
-            Transaction::Open(_) | Transaction::Doomed => Err(Refusal::Already.at(card, cell)),
-        }
+        let place = self.vacant(card, cell)?;
+        self.serve(Access::Writes, place, Transaction::Closed);
+        self.cells[place.cell] = value;
+        Ok(())
     }
 
     fn begin(&mut self, card: usize) -> Result<(), MemoryFault> {
-        match self.transaction(card, 0)? {
-            Transaction::Closed => {
-                self.restore(card, Transaction::Open(Log::new()));
-                Ok(())
-            }
-            Transaction::Open(_) | Transaction::Doomed => Err(Refusal::Already.at(card, 0)),
-        }
+        let place = self.vacant(card, 0)?;
+        self.restore(place, Transaction::Open(Log::new()));
+        Ok(())
     }
 
+    #[tactic(auto, using(crate::proofs::Opens::reads))]
     fn read(&mut self, card: usize, cell: usize) -> Result<u16, MemoryFault> {
-        match self.transaction(card, cell)? {
-            Transaction::Closed => Err(Refusal::NoTransaction.at(card, cell)),
-            Transaction::Open(log) => self.read_open(log, card, cell),
-            Transaction::Doomed => {
-                self.restore(card, Transaction::Closed);
-                Err(Refusal::Doomed.at(card, cell))
-            }
+        let place = Place::new(card, cell)?;
+        let mut log = self.open(place)?;
+        if log.wrote(place.cell) {
+            let value = self.cells[place.cell];
+            self.serve(Access::Reads, place, Transaction::Open(log));
+            return Ok(value);
         }
+        if let Err(refusal) = log.mark(place) {
+            self.restore(place, Transaction::Closed);
+            return Err(place.refuse(refusal));
+        }
+        let standing = self.standing(place.cell);
+        self.serve(Access::Reads, place, Transaction::Open(log));
+        Ok(standing)
     }
 
+    // The first write of a cell keeps its old value.
+    #[tactic(auto, using(crate::proofs::Firsts::firsts))]
     fn write(&mut self, card: usize, cell: usize, value: u16) -> Result<(), MemoryFault> {
-        match self.transaction(card, cell)? {
-            Transaction::Closed => Err(Refusal::NoTransaction.at(card, cell)),
-            Transaction::Open(log) => self.write_open(log, card, cell, value),
-            Transaction::Doomed => {
-                self.restore(card, Transaction::Closed);
-                Err(Refusal::Doomed.at(card, cell))
-            }
+        let place = Place::new(card, cell)?;
+        let log = self.open(place)?;
+        if log.wrote(place.cell) {
+            self.serve(Access::Writes, place, Transaction::Open(log));
+            self.cells[place.cell] = value;
+            return Ok(());
         }
+        let mut longer = log;
+        if let Err(refusal) = longer.record(place, self.standing(place.cell)) {
+            self.restore(place, Transaction::Closed);
+            return Err(place.refuse(refusal));
+        }
+        self.serve(Access::Writes, place, Transaction::Open(log));
+        self.cells[place.cell] = value;
+        self.txs[place.card] = Transaction::Open(longer);
+        Ok(())
     }
 
+    // The values are in the cells, so the old ones are let go.
     fn commit(&mut self, card: usize) -> Result<(), MemoryFault> {
-        match self.transaction(card, 0)? {
-            Transaction::Closed => Err(Refusal::NoTransaction.at(card, 0)),
-            Transaction::Open(log) => {
-                self.keep(log, card);
-                Ok(())
-            }
-            Transaction::Doomed => {
-                self.restore(card, Transaction::Closed);
-                Err(Refusal::Doomed.at(card, 0))
-            }
-        }
+        let place = Place::new(card, 0)?;
+        self.open(place)?;
+        self.txs[place.card] = Transaction::Closed;
+        Ok(())
     }
 
     fn drop(&mut self, card: usize) -> Result<(), MemoryFault> {
-        match self.transaction(card, 0)? {
-            Transaction::Closed => Err(Refusal::NoTransaction.at(card, 0)),
+        let place = Place::new(card, 0)?;
+        match self.transaction(place) {
+            Transaction::Closed => Err(place.refuse(Refusal::NoTransaction)),
             Transaction::Open(_) | Transaction::Doomed => {
-                self.restore(card, Transaction::Closed);
+                self.restore(place, Transaction::Closed);
                 Ok(())
             }
         }

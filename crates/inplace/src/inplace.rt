@@ -1,7 +1,7 @@
 ghost use Rattle.std.specs.Prelude.{◌≡◌, true, length};
 ghost use Rattle.inplace.specs.Undo.{distinct, undoes};
 
-use crate::log::Transaction;
+use memory::log::Transaction;
 
 // A memory that puts written values into the cells at once. A log keeps the old values, which still stand, until
 // the commit. No two kept values are of one cell, so that putting them back is exact.

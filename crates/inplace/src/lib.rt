@@ -1,11 +1,7 @@
 // The second memory: written values go into the cells at once, and old ones are kept to restore.
 #![tactic(auto)]
 
-pub(crate) mod accesses;
 pub mod calls;
 pub mod inplace;
-pub(crate) mod log;
-pub(crate) mod logging;
-pub(crate) mod saved;
 pub(crate) mod serving;
 pub(crate) mod undo;

@@ -1,22 +1,48 @@
-ghost use Rattle.std.specs.Prelude.{◌≡◌, ◌<◌, [], map, slice_index_or, slice_set};
-ghost use Rattle.memory.specs.Meaning.{none, landed, standing, with_tx, served};
-ghost use Rattle.inplace.specs.Undo.{undo_log, undo_of, written, tx_in};
-ghost use Rattle.inplace.specs.Standing.{meaning_of, Fetched};
+ghost use Rattle.std.specs.Prelude.{◌≡◌, ◌<◌, [], map, slice_index_or};
+ghost use Rattle.memory.specs.Logs.{Vacant};
+ghost use Rattle.memory.specs.Meaning.{standing, with_tx, served};
+ghost use Rattle.inplace.specs.Undo.{undo_of, written, tx_in};
+ghost use Rattle.inplace.specs.Standing.{meaning_of, Fetched, Opened};
 
 use crate::inplace::InPlace;
-use crate::log::{Log, Transaction};
-use crate::undo::{doom, put_back};
+use crate::undo::doom;
 use memory::access::Access;
-use memory::fault::MemoryFault;
-use memory::range::check_range;
+use memory::fault::{MemoryFault, Refusal};
+use memory::land::land;
+use memory::log::{Log, Transaction};
+use memory::place::Place;
 
 impl InPlace {
-    // The card's transaction, for a call at a cell.
-    pub(crate) fn transaction(&self, card: usize, cell: usize) -> Result<Transaction, MemoryFault>
-        ensures { Fetched self.now card cell result }
+    // The card's transaction.
+    pub(crate) fn transaction(&self, place: Place) -> Transaction
+        ensures { Fetched self.now place result }
     {
-        check_range(card, cell)?;
-        Ok(self.txs[card])
+        self.txs[place.card]
+    }
+
+    // The place of a call that wants no transaction; each memory proves it of its own meaning.
+    pub(crate) fn vacant(&self, card: usize, cell: usize) -> Result<Place, MemoryFault>
+        ensures { Vacant (meaning_of self.now) card cell result }
+    {
+        let place = Place::new(card, cell)?;
+        self.transaction(place)
+            .closed()
+            .map_err(|refusal| place.refuse(refusal))?;
+        Ok(place)
+    }
+
+    // The log of the card's open transaction; the refusal of a doomed one closes it.
+    pub(crate) fn open(&mut self, place: Place) -> Result<Log, MemoryFault>
+        ensures { Opened self.old self.new place result }
+    {
+        match self.transaction(place) {
+            Transaction::Closed => Err(place.refuse(Refusal::NoTransaction)),
+            Transaction::Open(log) => Ok(log),
+            Transaction::Doomed => {
+                self.restore(place, Transaction::Closed);
+                Err(place.refuse(Refusal::Doomed))
+            }
+        }
     }
 
     // The standing value: the old one that a transaction keeps, or else what is in the cell.
@@ -24,8 +50,9 @@ impl InPlace {
         requires { cell < 137 }
         ensures { result ≡ standing (meaning_of self.now) cell }
     {
+        // No `find_map`, whose contract says how the calls ran and not what they find in a list.
         for tx in &self.txs {
-            if let Some(old) = tx.old(cell) {
+            if let Some(old) = tx.value_of(cell) {
                 return old;
             }
         }
@@ -33,41 +60,28 @@ impl InPlace {
     }
 
     // Puts back what the card's transaction has written, and gives the card one that has written nothing.
-    pub(crate) fn restore(&mut self, card: usize, to: Transaction)
-        requires at { card < 8 }
+    #[tactic(auto, using(crate::proofs::Restores::restores))]
+    pub(crate) fn restore(&mut self, place: Place, to: Transaction)
         requires bare { undo_of to ≡ [] }
         ensures { meaning_of self.new
-            ≡ with_tx (meaning_of self.old) card (tx_in self.old.cells to) }
+            ≡ with_tx (meaning_of self.old) place.card (tx_in self.old.cells to) }
     {
-        let tx = self.txs[card];
-        put_back(&mut self.cells, tx.saved());
-        self.txs[card] = to;
+        let tx = self.txs[place.card];
+        land(&mut self.cells, tx.writes());
+        self.txs[place.card] = to;
     }
 
     // An accepted access: the transactions of others that it goes against are doomed, and the card has its own,
     // which keeps the same old values as before.
-    pub(crate) fn serve(&mut self, how: Access, card: usize, cell: usize, own: Transaction)
-        requires at { card < 8 }
-        requires same { undo_of (slice_index_or self.old.txs card Transaction.Closed) ≡ undo_of own }
-        ensures own { slice_index_or self.new.txs card Transaction.Closed ≡ own }
+    pub(crate) fn serve(&mut self, how: Access, place: Place, own: Transaction)
+        requires same { undo_of (slice_index_or self.old.txs place.card Transaction.Closed) ≡ undo_of own }
+        ensures own { slice_index_or self.new.txs place.card Transaction.Closed ≡ own }
         ensures written { map (written self.new.cells) (undo_of own)
             ≡ map (written self.old.cells) (undo_of own) }
         ensures after { meaning_of self.new
-            ≡ served how card cell (tx_in self.old.cells own) (meaning_of self.old) }
+            ≡ served how place.card place.cell (tx_in self.old.cells own) (meaning_of self.old) }
     {
-        doom(&mut self.cells, &mut self.txs, card, how, cell);
-        self.txs[card] = own;
-    }
-
-    // The commit of an open transaction: its values are in the cells, so the old ones are let go.
-    pub(crate) fn keep(&mut self, log: Log, card: usize)
-        requires at { card < 8 }
-        requires own { slice_index_or self.old.txs card Transaction.Closed ≡ Transaction.Open log }
-        ensures cells { (meaning_of self.new).cells
-            ≡ landed (meaning_of self.old).cells
-            (map (written self.old.cells) (undo_log log)) }
-        ensures txs { (meaning_of self.new).txs ≡ slice_set (meaning_of self.old).txs card none }
-    {
-        self.txs[card] = Transaction::Closed;
+        doom(&mut self.cells, &mut self.txs, place.card, how, place.cell);
+        self.txs[place.card] = own;
     }
 }

@@ -1,23 +1,10 @@
-ghost use Rattle.std.specs.Prelude.{◌≡◌, true, map, slice_index_or};
-ghost use Rattle.memory.specs.Meaning.{landed};
-ghost use Rattle.inplace.specs.Undo.{back, distinct, undoes};
+ghost use Rattle.std.specs.Prelude.{◌≡◌, true, slice_index_or};
+ghost use Rattle.inplace.specs.Undo.{distinct, undoes};
 ghost use Rattle.inplace.specs.Standing.{meant, dooming};
 
-use crate::log::Transaction;
-use crate::saved::Saved;
 use memory::access::Access;
-
-// Puts old values back into their cells.
-pub(crate) fn put_back(cells: &mut [u16], saved: &[Saved])
-    ensures { cells.new ≡ landed cells.old (map back saved.now) }
-{
-    for kept in saved {
-        let at = kept.cell as usize;
-        if at < cells.len() {
-            cells[at] = kept.old;
-        }
-    }
-}
+use memory::land::land;
+use memory::log::Transaction;
 
 // The requester wins: dooms every other card's open transaction that the access goes against, and puts back
 // what it had written.
@@ -36,7 +23,7 @@ pub(crate) fn doom(
 {
     for (i, tx) in txs.iter_mut().enumerate() {
         if i != card && tx.conflicts(how, cell) {
-            put_back(cells, tx.saved());
+            land(cells, tx.writes());
             *tx = Transaction::Doomed;
         }
     }

@@ -6,3 +6,4 @@ pub mod Rooms
 pub mod Seeks
 pub mod Soundness
 pub mod Woven
+pub mod Writes

@@ -1,24 +1,23 @@
 -- The search for the first record of a cell.
-use Rattle.std.proofs.Common.{◌≡◌, ℕ, suc, ◌+◌, ◌<◌, Bool, true, false, cond, eqb, List, [], ◌∷◌, length, get_or}
-use Rattle.std.proofs.Common.{drop, is_some, Some, None, Option, sym, refl, ap, ◌∙◌, subst, arith, eq-eqb, ne_eqb}
-use Rattle.std.proofs.lemmas.List.{at_drop_more}
-use Rattle.std.proofs.lemmas.Bool.{cond-true, cond-false}
+use Rattle.std.proofs.Common.{◌≡◌, ℕ, suc, ◌+◌, Bool, true, false, cond, eqb, List, [], ◌∷◌}
+use Rattle.std.proofs.Common.{is_some, Some, None, Option, refl, ap, ◌∙◌, subst, arith}
+use Rattle.std.specs.List.{position, position_from}
+use Rattle.std.proofs.lemmas.Iterator.Adapters.{position_from-zero}
 use Rattle.memory.specs.Meaning.{has, seek}
 
 module _ {X : Type 0} (f : X → ℕ) (cell : ℕ) where
-  -- the search ends at a record of the cell
-  pub seek_hit : (xs : List X) (i : ℕ) (x : X) → i < length xs → x ≡ get_or xs i x → f x ≡ cell
-      → seek f cell i (drop i xs) ≡ Some i
-  seek_hit xs i x h e t =
-      at_drop_more (seek f cell i) xs i x h
-      ∙ cond-true (eqb (f (get_or xs i x)) cell) (Some i) _ (eq-eqb _ _ (ap f (sym e) ∙ t))
+  -- whether a record is of the cell
+  abbrev pub of_cell : X → Bool
+  of_cell x = eqb (f x) cell
 
-  -- the search goes on past a record of another cell
-  pub seek_miss : (xs : List X) (i : ℕ) (x : X) → i < length xs → x ≡ get_or xs i x → (f x ≡ cell → ⊥)
-      → seek f cell i (drop i xs) ≡ seek f cell (i + 1) (drop (i + 1) xs)
-  seek_miss xs i x h e t =
-      at_drop_more (seek f cell i) xs i x h
-      ∙ cond-false (eqb (f (get_or xs i x)) cell) (Some i) _ (ne_eqb _ _ (λ q. t (ap f e ∙ q)))
+  -- the search by std's word, with places counted from k
+  seek_from : (k : ℕ) (xs : List X) → position_from of_cell k xs ≡ seek f cell k xs
+  seek_from k [] = refl
+  seek_from k (x ∷ xs) = ap (cond (of_cell x) (Some k)) (seek_from (k + 1) xs)
+
+  -- with places counted from 0
+  pub seek_is : (xs : List X) → position of_cell xs ≡ seek f cell 0 xs
+  seek_is xs = position_from-zero of_cell xs ∙ seek_from 0 xs
 
   -- a record is found where there is one
   pub seek_has : (k : ℕ) (xs : List X) → has f xs cell ≡ is_some (seek f cell k xs)
@@ -65,7 +64,3 @@ module _ {X : Type 0} (f : X → ℕ) (cell : ℕ) where
     none_found k [] e = empty
     none_found k (x ∷ xs) e =
         none_step k x xs (seek f cell (k + 1) xs) (eqb (f x) cell) refl e (none_found (k + 1) xs)
-
-  -- what is found is there
-  pub found_below : (xs : List X) (i : ℕ) → seek f cell 0 xs ≡ Some i → i < length xs
-  found_below = found (λ xs i. i < length xs) (λ x xs q. omega arith) (λ x xs j q h. omega arith)

@@ -4,4 +4,5 @@ pub mod Calls
 pub mod Isolation
 pub mod Lasting
 pub mod Examples
-pub mod Marks
+pub mod Few
+pub mod Logs

@@ -49,16 +49,15 @@ pub fn perform<M: Memory>(memory: &mut M, call: MemoryCall) -> Result<u16, Memor
     match call {
         MemoryCall::Clear => {
             memory.clear();
-            return Ok(0);
+            Ok(0)
         }
-        MemoryCall::Look { cell } => return memory.look(cell),
-        MemoryCall::Load { card, cell } => return memory.load(card, cell),
-        MemoryCall::Read { card, cell } => return memory.read(card, cell),
-        MemoryCall::Store { card, cell, value } => memory.store(card, cell, value)?,
-        MemoryCall::Begin { card } => memory.begin(card)?,
-        MemoryCall::Write { card, cell, value } => memory.write(card, cell, value)?,
-        MemoryCall::Commit { card } => memory.commit(card)?,
-        MemoryCall::Drop { card } => memory.drop(card)?,
+        MemoryCall::Look { cell } => memory.look(cell),
+        MemoryCall::Load { card, cell } => memory.load(card, cell),
+        MemoryCall::Read { card, cell } => memory.read(card, cell),
+        MemoryCall::Store { card, cell, value } => memory.store(card, cell, value).map(|()| 0),
+        MemoryCall::Begin { card } => memory.begin(card).map(|()| 0),
+        MemoryCall::Write { card, cell, value } => memory.write(card, cell, value).map(|()| 0),
+        MemoryCall::Commit { card } => memory.commit(card).map(|()| 0),
+        MemoryCall::Drop { card } => memory.drop(card).map(|()| 0),
     }
-    Ok(0)
 }

@@ -1,33 +1,27 @@
 ghost use Rattle.std.specs.Prelude.{◌≡◌};
 ghost use Rattle.memory.specs.Numbers.{number};
 
-// Why a memory refuses a call, in the order of judging.
+// Why a memory refuses a call, in the order of judging, each with the number by which it is known outside.
 #[derive(Clone, Copy)]
 pub enum Refusal {
     // a cell or a card that no memory has
-    OutOfRange,
+    OutOfRange = 21,
     // the card has a transaction, open or doomed
-    Already,
+    Already = 22,
     // the card has no transaction
-    NoTransaction,
+    NoTransaction = 23,
     // the card's transaction is doomed
-    Doomed,
+    Doomed = 24,
     // a fifth mark or a fifth write
-    Full,
+    Full = 25,
 }
 
 impl Refusal {
-    // The number by which a refusal is known outside.
+    // The number of the refusal.
     pub fn number(self) -> u16
         ensures { result ≡ number self }
     {
-        match self {
-            Refusal::OutOfRange => 21,
-            Refusal::Already => 22,
-            Refusal::NoTransaction => 23,
-            Refusal::Doomed => 24,
-            Refusal::Full => 25,
-        }
+        self as u16
     }
 
     // The refusal of a call by the card at the cell.

@@ -5,10 +5,12 @@
 pub mod access;
 pub mod call;
 pub mod fault;
-pub mod marking;
-pub mod marks;
+pub mod few;
+pub mod land;
+pub mod log;
+pub mod logging;
 pub mod memory;
-pub mod range;
+pub mod place;
 pub mod replay;
 pub mod search;
 pub mod write;

@@ -33,10 +33,5 @@ pub fn find<T: Celled>(items: &[T], cell: usize) -> Option<usize>
     ensures first { result ≡ seek T.place cell 0 items.now }
     ensures within { IfSome result (λ i. i < length items.now) }
 {
-    for (i, item) in items.iter().enumerate() {
-        if item.cell() == cell {
-            return Some(i);
-        }
-    }
-    None
+    items.iter().position(|item| item.cell() == cell)
 }

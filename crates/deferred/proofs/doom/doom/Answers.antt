@@ -1,11 +1,11 @@
-use Rattle.std.proofs.Common.{◌<◌, ◌≤◌, map, length, sym, ap, ◌∙◌, inl, inr, arith}
+use Rattle.std.proofs.Common.{◌<◌, map, length, sym, ap, ◌∙◌, inl, inr, arith}
 use lib.Seq.{map-set, set-get_or}
 use Rattle.std.proofs.lemmas.List.{get_or-map, length-map}
 use Rattle.std.proofs.lemmas.Bool.{cond-true, cond-false}
-use Rattle.deferred.specs.declared.log.Transaction.TheVariants.{Doomed}
+use Rattle.memory.specs.declared.log.Transaction.TheVariants.{Doomed}
 use Rattle.memory.specs.Meaning.{none, doomed, struck, conflicts}
-use Rattle.deferred.specs.Deferral.{tx_in}
-use Rattle.memory.proofs.Woven.{others_set, others_kept, others_all}
+use Rattle.memory.specs.Logs.{tx_kept}
+use Rattle.memory.proofs.Woven.{others_set, others_kept}
 use Rattle.deferred.proofs.doom.doom.Goals as goal
 use Rattle.deferred.proofs.doom.doom.Goals.{then-i-card+then-conflicts, else-i-card}
 use Rattle.deferred.proofs.doom.doom.Goals.{else-i-card-via-then-i-card+else-conflicts, else-i-card-via-else-i-card}
@@ -13,32 +13,26 @@ use Rattle.deferred.proofs.doom.doom.Goals.{else-i-card-via-then-i-card+else-con
 -- a turn of the loop does the place i
 pub loop-i-preserved : goal.loop-i-preserved
 loop-i-preserved c =
-    let ts = map tx_in c.args.txs.now in
+    let ts = map tx_kept c.args.txs.now in
     let f = struck c.args.how c.args.cell in
     let i = c.loop-i.i in
-    let h : i < length ts = rw (length-map c.args.txs.now tx_in) c.loop-i-test.true in
+    let h : i < length ts = rw (length-map c.args.txs.now tx_kept) c.loop-i-test.true in
     let h' : i < length c.loop-i.txs = omega arith in
-    let e = get_or-map tx_in c.loop-i.txs i c.index-txs-i.result none h' in
+    let e = get_or-map tx_kept c.loop-i.txs i c.index-txs-i.result none h' in
     let back = set-get_or c.loop-i.txs i c.index-txs-i.result in
     let k = conflicts c.args.how c.args.cell in
     let card = c.args.card in
-    let kept = others_kept f card none ts (map tx_in c.loop-i.txs) i c.loop-i.invariant h in
+    let kept = others_kept f card none ts (map tx_kept c.loop-i.txs) i c.loop-i.invariant h in
     elim c.if-i-card.branch [
       | then-i-card+then-conflicts w ↦
-          ap (map tx_in) w.txs-is
-          ∙ (map-set tx_in c.loop-i.txs i Doomed
-          ∙ others_set f card none ts (map tx_in c.loop-i.txs) i c.loop-i.invariant h doomed w.if-i-card.true
+          ap (map tx_kept) w.txs-is
+          ∙ (map-set tx_kept c.loop-i.txs i Doomed
+          ∙ others_set f card none ts (map tx_kept c.loop-i.txs) i c.loop-i.invariant h doomed w.if-i-card.true
           (sym (cond-true _ _ _ (ap k e ∙ sym w.if-conflicts.ensures))))
-      | else-i-card w ↦ ap (map tx_in) w.txs-is ∙ elim w.else-i-card.branch [
+      | else-i-card w ↦ ap (map tx_kept) w.txs-is ∙ elim w.else-i-card.branch [
         | else-i-card-via-then-i-card+else-conflicts v ↦
-            ap (map tx_in) (v.txs-is ∙ back)
+            ap (map tx_kept) (v.txs-is ∙ back)
             ∙ kept (inr (v.if-i-card.true, cond-false _ _ _ (ap k e ∙ sym v.if-conflicts.ensures)))
-        | else-i-card-via-else-i-card v ↦ ap (map tx_in) (v.txs-is ∙ back) ∙ kept (inl v.if-i-card.false)
+        | else-i-card-via-else-i-card v ↦ ap (map tx_kept) (v.txs-is ∙ back) ∙ kept (inl v.if-i-card.false)
       ]
     ]
-
-pub returns : goal.returns
-returns c =
-    let ts = map tx_in c.args.txs.now in
-    let h : length ts ≤ c.loop-i.i = rw (length-map c.args.txs.now tx_in) c.loop-i-test.false in
-    others_all (struck c.args.how c.args.cell) c.args.card none ts _ _ c.loop-i.invariant h

@@ -1,7 +1,7 @@
 use Rattle.std.proofs.Common.{◌≡◌, ◌+◌, ◌<◌, length, set, sym, ap, ◌∙◌, inl, inr, arith}
 use lib.Seq.{set-get_or}
 use Rattle.memory.specs.Meaning.{landed}
-use Rattle.inplace.specs.declared.log.Transaction.TheVariants.{Doomed}
+use Rattle.memory.specs.declared.log.Transaction.TheVariants.{Doomed}
 use Rattle.inplace.specs.Undo.{undo_of}
 use Rattle.inplace.proofs.Dooms.{done_none, done_is, done_doom, done_keep, done_all}
 use Rattle.inplace.proofs.undo.doom.Goals as goal
@@ -31,7 +31,7 @@ loop-i-preserved c =
       | then-i-card+then-conflicts w ↦
           is (landed cs (undo_of t)) c.if-i-card.cells (set ts i Doomed) c.if-i-card.txs
           (w.cells-is
-          ∙ (w.put_back.ensures ∙ ap (landed cs) (w.saved.ensures ∙ ap undo_of (sym c.index-txs-i.is))))
+          ∙ (w.land.ensures ∙ ap (landed cs) (w.writes.ensures ∙ ap undo_of (sym c.index-txs-i.is))))
           w.txs-is
           (done_doom a.how a.card a.cell cells txs i cs ts D h l t w.if-i-card.true c.index-txs-i.is
           (sym w.if-conflicts.ensures))

@@ -1,0 +1,51 @@
+use Rattle.std.proofs.Common.{◌≡◌, ◌<◌, List, map, length, Ok, sym, ap, ◌∙◌, rules}
+use Rattle.memory.specs.declared.write.Write.{Write}
+use Rattle.memory.specs.declared.access.Access.TheVariants.{Writes}
+use Rattle.memory.specs.declared.log.Transaction.TheVariants.{Open}
+use Rattle.memory.specs.Logs.{marks_of, writes_of}
+use Rattle.memory.specs.Meaning.{Meaning, replaced, live, with_tx}
+use Rattle.memory.proofs.Rooms.{fitted_ok}
+use Rattle.inplace.specs.Undo.{undo_log, written}
+use Rattle.inplace.specs.Standing.{meaning_of}
+use Rattle.inplace.proofs.Assigns.{again_cells, again_txs, free_after, served_again}
+use Rattle.inplace.proofs.Firsts.{first_apart}
+use Rattle.inplace.proofs.Conflicts.{wrote_written}
+use Rattle.inplace.proofs.Means.{both}
+use Rattle.inplace.proofs.Opens.{write_again}
+use Rattle.inplace.proofs.Own.{own_at}
+use Rattle.inplace.proofs.calls.InPlaceMemory.write.Goals as goal
+
+-- another value for a written cell
+pub returns-then-wrote-clause-after : goal.returns-then-wrote-clause-after
+returns-then-wrote-clause-after c =
+    let a = c.args in
+    let n = c.open.new.self in
+    let e = c.serve.new.self in
+    let p = c.in_ok-place.place in
+    let l = c.in_ok-log.log in
+    let own = own_at e p.card (Open l) p.within.0 c.serve.ensures.own in
+    let free = free_after e Writes p.card p.cell _ (meaning_of n) c.serve.ensures.after in
+    let known = sym c.wrote.ensures ∙ c.if-wrote.true in
+    let fits : p.cell < length e.cells = search rules in
+    let new = λ (ws : List Write). live (marks_of l) (replaced ws p.cell a.value) in
+    let ws = map (written n.cells) (undo_log l) in
+    both _ _ (again_cells e.cells e.txs p.card l p.cell a.value own.0 own.1 e.apart free known fits)
+    (again_txs e.cells e.txs p.card l p.cell a.value own.0 own.1 e.apart free known fits)
+    ∙ (ap (λ l. with_tx (meaning_of e) p.card (new l)) c.serve.ensures.written
+    ∙ (ap (λ (m : Meaning). with_tx m p.card (new ws)) c.serve.ensures.after
+    ∙ (served_again Writes p.card p.cell _ (new ws) (meaning_of n)
+    ∙ sym (ap (λ o. o.after)
+    (write_again a.self.now n p a.card a.cell l c.in_ok-place.ensures c.in_ok-log.ensures a.value
+    (wrote_written n.cells (undo_log l) p.cell ∙ known))))))
+
+-- the log with the old value keeps no cell twice
+pub invariant_of-self-2-clause-apart : goal.invariant_of-self-2-clause-apart
+invariant_of-self-2-clause-apart c =
+    let l = c.in_ok-log.log in
+    let g = c.record.new.self in
+    let fits : c.in_ok-place.place.cell < length c.serve-2.new.self.cells = search rules in
+    let q : c.record.result ≡ Ok tt = search rules in
+    let k = fitted_ok (writes_of l) (writes_of g) _ c.record.result tt c.record.ensures.writes q in
+    first_apart c.open.new.self c.serve-2.new.self c.in_ok-place.place l g c.standing.result fits
+    c.serve-2.ensures.after c.serve-2.ensures.own c.serve-2.ensures.written
+    (sym c.wrote.ensures ∙ c.if-wrote.false) c.standing.ensures c.record.ensures.marks k
