@@ -1,4 +1,4 @@
-// Whole lines, each with its line end.
+// Whole lines, each with its line end. `format!` makes them; a function says which line it is.
 ghost use Rattle.std.specs.Prelude.{◌≡◌, IfOk, string_bytes};
 ghost use Rattle.report.specs.Texts.{answer_line, sizes_line, queue_line};
 

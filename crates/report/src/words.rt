@@ -7,8 +7,7 @@ use lock::fault::LockFault;
 use stages::answer::Answer;
 use std::fmt;
 
-// What a call gave. `Result` is no type of this repository and an answer is one of the lock's, so their words are those
-// of a type of this crate.
+// What a call gave. `Result` is std's and `Answer` the stages', so their words belong to a type of this crate.
 #[derive(Drop)]
 pub struct Outcome(pub Result<Answer, DoorFault>);
 
