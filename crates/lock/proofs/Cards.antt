@@ -1,6 +1,6 @@
 -- Searches through the cards.
-use Rattle.std.proofs.Common.{◌≡◌, ℕ, Bool, true, false, cond, not, List, [], ◌∷◌, ◌||◌, Option, Some, None, MatchOption}
-use Rattle.std.proofs.Common.{Bor, refl, ap, ◌∙◌}
+use Rattle.std.proofs.Common.{◌≡◌, ℕ, Bool, true, false, cond, not, List, [], ◌∷◌, ◌||◌, Option, Some, None}
+use Rattle.std.proofs.Common.{MatchOption, Bor, refl, ap, ◌∙◌}
 use Rattle.std.specs.List.{list_any, find}
 use Rattle.std.specs.Option.{option_map}
 use Rattle.stages.specs.declared.stage.Card.{Card}

@@ -1,5 +1,5 @@
-// Which node a card has, and what is stored in the cells of one that is taken. The stores take the memory and no lock: of
-// a lock they would have to promise that its sizes and records stay too.
+// Which node a card has, and what is stored in the cells of one that is taken. The stores take the memory and no lock:
+// of a lock they would have to promise that its sizes and records stay too.
 ghost use Rattle.std.specs.Prelude.{◌≡◌};
 ghost use Rattle.lock.specs.Lock.{has_node, stores, entry_stores, reuse_stores, first_stage};
 

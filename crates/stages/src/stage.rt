@@ -75,8 +75,8 @@ pub enum ReaderExit {
 }
 
 // A card's stage, with the numbers that it keeps: pred and nxt are links, ps and ss the states read of them. Each is
-// what a cell held, so it may be any number. Where no state was read, ps or ss is 0: pred and nxt say already that it is
-// not looked at, and an Option would say so twice.
+// what a cell held, so it may be any number. Where no state was read, ps or ss is 0: pred and nxt say already that it
+// is not looked at, and an Option would say so twice.
 #[derive(Clone, Copy)]
 pub enum Stage {
     Idle,
