@@ -48,7 +48,8 @@ pub fn begin_of(stage: Stage) -> Stage
 }
 
 // Whether the row of a stage goes by a transaction, which is so for any card on any board; a stage without a row has
-// none. A row's call would tell it too, but a second maker of calls costs each step a quarter more instructions.
+// none. The row's call would tell it too, but with a second caller `call_of` is no longer compiled into the step, which
+// then takes a quarter more instructions.
 pub fn has_transaction(stage: Stage) -> bool
     ensures { (nodes card : ℕ) → result ≡ by_transaction (call_of nodes card stage) }
 {
