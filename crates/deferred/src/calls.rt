@@ -15,7 +15,7 @@ use memory::place::Place;
 use std::mem;
 
 impl Deferred {
-    // A memory newly made: every cell 0, no transaction.
+    // A memory newly made: every cell 0, no transaction. Each memory has cells and transactions of its own.
     pub fn new() -> Deferred
         ensures { meaning_of result ≡ cleared }
     {
@@ -45,6 +45,7 @@ impl Deferred {
     }
 }
 
+// Each of the nine calls is proved of this memory's meaning: what the memories share of them is in the log.
 impl Memory for Deferred {
     ghost meaning = { meaning_of };
 

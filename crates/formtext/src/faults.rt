@@ -1,4 +1,5 @@
-// Why a text was not read.
+// Why a text was not read. A run fails for one reason more, so it has a type of its own. The conversions are written
+// out, since a derived one promises nothing.
 ghost use Rattle.std.specs.Prelude.{◌≡◌, alloc_error};
 ghost use Rattle.formtext.specs.declared.faults.ReadFault.TheVariants.{Memory, Form};
 

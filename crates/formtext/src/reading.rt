@@ -12,7 +12,8 @@ pub struct Schedule {
     pub events: Vec<Event>,
 }
 
-// The schedule that `text` is the rendering of, or the first line at which it is that of none.
+// The schedule that `text` is the rendering of, or the first line at which it is that of none. The index is the event's
+// number, by which a fault finds its line.
 pub fn read(heap: Global, text: &[u8]) -> Result<Schedule, ReadFault>
     ensures { ReadsWhole text.now result }
 {

@@ -56,7 +56,7 @@ impl fmt::Display for Understood {
     }
 }
 
-// The size section on one line.
+// The size section on one line; a schedule has the same numbers on a line each.
 pub fn sizes_line(heap: Global, sizes: SizeLines) -> Result<String, AllocError>
     ensures { IfOk result (λ s. string_bytes s ≡ sizes_line sizes) }
 {

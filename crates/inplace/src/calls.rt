@@ -10,7 +10,7 @@ use memory::memory::Memory;
 use memory::place::Place;
 
 impl InPlace {
-    // A memory newly made: every cell 0, no transaction.
+    // A memory newly made: every cell 0, no transaction. Each memory has cells and transactions of its own.
     pub fn new() -> InPlace
         ensures { meaning_of result ≡ cleared }
     {
@@ -29,6 +29,7 @@ impl InPlace {
     }
 }
 
+// Each of the nine calls is proved of this memory's meaning: what the memories share of them is in the log.
 impl Memory for InPlace {
     ghost meaning = { meaning_of };
 

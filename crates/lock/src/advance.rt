@@ -8,8 +8,8 @@ use stages::answer::Answer;
 use stages::rows::begin_of;
 use stages::stage::{Card, Stage};
 
-// Moves a card by its stage and the memory's outcome together. A lost transaction starts again on the same node; any
-// other refusal leaves the card where it is and passes up whole.
+// Moves a card by its stage and the memory's outcome together, in one match, so that no pair of the two is forgotten. A
+// lost transaction starts again on the same node; any other refusal leaves the card where it is and passes up whole.
 pub(crate) fn advance(
     card: &mut Card,
     outcome: Result<u16, MemoryFault>,

@@ -40,7 +40,8 @@ pub enum MemoryCall {
     },
 }
 
-// Makes one call; one that answers no number answers 0.
+// Makes one call; one that answers no number answers 0, since whoever reads the number made a call that has one. A call
+// is a value and no closure, so that a list of calls can be made and spoken of.
 #[tactic(auto, unfolding(crate::specs::Calls::performed))]
 pub fn perform<M: Memory>(memory: &mut M, call: MemoryCall) -> Result<u16, MemoryFault>
     ensures answer { result ≡ (performed (M.meaning memory.old) call).answer }

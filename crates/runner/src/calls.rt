@@ -22,8 +22,8 @@ fn request(card: u16, toggle: u16, kind: Kind, first: u16, second: u16) -> Call
     }
 }
 
-// The call that an event line asks for; the unused numbers of a request are 0. No From, since an event is textline's and
-// a call the door's.
+// The call that an event line asks for; the unused numbers of a request are 0. No From, since an event is textline's
+// and a call the door's.
 pub fn call_of(event: Event) -> Call
     ensures { result ≡ call_of_event event }
 {

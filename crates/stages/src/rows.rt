@@ -1,7 +1,8 @@
 // The rows of the table of steps: a card's stage names its row, and each row makes one memory call.
 //
 // Each phase has rows of its own, and nothing works on any phase alike: a trait of theirs would add a table of laws and
-// take away no arm of these.
+// take away no arm of these. A row takes the card and the node as they are, for a record of them would be taken apart
+// in each.
 ghost use Rattle.std.specs.Prelude.{◌≡◌, ℕ};
 ghost use Rattle.stages.specs.Rows.{call_of, begin_of, in_transaction, by_transaction};
 

@@ -14,7 +14,7 @@ pub enum FormFault {
 }
 
 impl FormFault {
-    // The fault's number in every report.
+    // The fault's number in every report. A match says it, since one of the faults has a line with it.
     pub fn number(&self) -> u16
         ensures { result ≡ form_number self.now }
     {
@@ -24,7 +24,7 @@ impl FormFault {
         }
     }
 
-    // The line that is at fault; 0 where it is the whole text.
+    // The line that is at fault; 0 where it is the whole text, which is what every report prints of it.
     pub fn line(&self) -> u32
         ensures { result ≡ form_line self.now }
     {

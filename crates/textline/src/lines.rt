@@ -26,7 +26,8 @@ pub fn cut_number(s: &[u8]) -> Option<(u16, &[u8])>
     Some((number(digits)?, after))
 }
 
-// The event of the first line, and the lines behind it.
+// The event of the first line, and the lines behind it. As `cut_number`: two lines each, and a function of both would
+// take what reads the line as a closure.
 pub fn cut_event(s: &[u8]) -> Option<(Event, &[u8])>
     ensures { CutsEvent s.now result }
 {
