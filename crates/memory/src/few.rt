@@ -70,3 +70,18 @@ impl<T: Celled + Copy> Few<T> {
         find(self.as_slice(), cell).is_some()
     }
 }
+
+impl Few<u8> {
+    ghost use Rattle.memory.specs.Few.{items_of, fitted};
+    ghost use Rattle.memory.specs.Meaning.{marking};
+
+    // Marks the cell, once.
+    pub fn mark(&mut self, cell: u8) -> Result<(), Refusal>
+        ensures { (result, items_of self.new) ≡ fitted (items_of self.old) (marking (items_of self.old) cell) }
+    {
+        if self.has(usize::from(cell)) {
+            return Ok(());
+        }
+        self.push(cell)
+    }
+}

@@ -53,10 +53,7 @@ impl Log {
             ≡ fitted (marks_of self.old) (marking (marks_of self.old) place.cell) }
         ensures writes { writes_of self.new ≡ writes_of self.old }
     {
-        if self.marks.has(place.cell) {
-            return Ok(());
-        }
-        self.marks.push(place.cell as u8)
+        self.marks.mark(place.cell as u8)
     }
 
     // Records a write of the cell, in place of an earlier one.
