@@ -18,7 +18,8 @@ use Rattle.memory.specs.Logs.{marks_of}
 use Rattle.inplace.specs.Undo.{undo_log, distinct, written, undo_of, undoes, tx_in}
 use Rattle.inplace.specs.Standing.{meaning_of}
 use Rattle.inplace.proofs.Undoes.{lacks_left, lacks_right, lacks_append, distinct_head, distinct_left}
-use Rattle.inplace.proofs.Undoes.{distinct_right, distinct_insert, landed_without, landed_other, other_sym, written_other}
+use Rattle.inplace.proofs.Undoes.{distinct_right, distinct_insert, landed_without, landed_other, other_sym}
+use Rattle.inplace.proofs.Undoes.{written_other}
 use Rattle.inplace.proofs.Restores.{undoes_append, txs_other, lack_map, lack_set, lack_undoes, Lack}
 
 -- Cells that writes have.

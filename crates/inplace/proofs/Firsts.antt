@@ -1,5 +1,6 @@
 -- The first write of a cell: its old value goes into the log, and the new one into the cell.
-use Rattle.std.proofs.Common.{◌≡◌, ℕ, ◌<◌, true, false, List, [], ◌∷◌, ◌++◌, map, length, get_or, set, Some, sym, ap, ◌∙◌}
+use Rattle.std.proofs.Common.{◌≡◌, ℕ, ◌<◌, true, false, List, [], ◌∷◌, ◌++◌, map, length, get_or, set}
+use Rattle.std.proofs.Common.{Some, sym, ap, ◌∙◌}
 use Rattle.std.proofs.lemmas.Bool.{cond-false}
 use Rattle.std.proofs.lemmas.List.{length-map}
 use Rattle.memory.specs.declared.write.Write.{Write}
@@ -62,7 +63,8 @@ module _ (n e : InPlace) (p : Place) (l g : Log) (old : ℕ) (fits : p.cell < le
   -- the standing values are as they were, and the card's transaction has one write more
   pub first_after : (v : ℕ) → meant (set e.cells p.cell v) (set e.txs p.card (Open g))
       ≡ served Writes p.card p.cell
-      (live (marks_of l) (map (written n.cells) (undo_log l) ++ record { cell = p.cell; value = v } ∷ [])) (meaning_of n)
+      (live (marks_of l) (map (written n.cells) (undo_log l) ++ record { cell = p.cell; value = v } ∷ []))
+      (meaning_of n)
   first_after v =
       let tx = λ (ws : List Write). live (marks_of l) (ws ++ record { cell = p.cell; value = v } ∷ []) in
       let ws = map (written n.cells) (undo_log l) in

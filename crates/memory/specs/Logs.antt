@@ -31,7 +31,7 @@ writes_in Closed = []
 writes_in (Open l) = writes_of l
 writes_in Doomed = []
 
--- a transaction that is in the way of a call that wants none
+-- the refusal of a call that wants no transaction, where there is one
 abbrev pub wanting_none : Transaction → Result (Unit {0}) Refusal
 wanting_none Closed = Ok tt
 wanting_none (Open l) = Err Already

@@ -20,7 +20,7 @@ returns-in_err-map_err-clause-after c =
     let h : card < length d.txs = search rules in
     let own = get_or-map tx_kept d.txs card c.index-self-card.result none h in
     let q : (f : Refusal) × (c.write.result ≡ Err f) = search rules in
-    let e = writing_by m c.in_ok-place.place card cell c.args.value (tx_kept c.write.new.tx) c.write.result c.in_ok-place.ensures
-    (c.write.ensures ∙ ap (λ t. own_write t c.in_ok-place.place.cell c.args.value) (sym own)) in
+    let e = writing_by m c.in_ok-place.place card cell c.args.value (tx_kept c.write.new.tx) c.write.result
+    c.in_ok-place.ensures (c.write.ensures ∙ ap (λ t. own_write t c.in_ok-place.place.cell c.args.value) (sym own)) in
     ap (λ ts. record { cells = d.cells; txs = ts }) (map-set tx_kept d.txs card c.write.new.tx)
     ∙ sym (ap (λ o. o.after) (e ∙ ap (finished Writes m card cell (tx_kept c.write.new.tx)) q.1))

@@ -26,4 +26,5 @@ returns-clause-after c =
     let own = own_at e p.card t p.within.0 c.in_ok-open.ensures.1.1 in
     both _ _ (kept_cells e.cells e.txs p.card t own.0 own.1 e.apart) (map-set (tx_in e.cells) e.txs p.card Closed)
     ∙ sym (ap (λ o. o.after)
-    (commit_open c.args.self.now e p c.args.card 0 c.in_ok-open.field-0 c.in_ok-place.ensures c.in_ok-open.ensures refl))
+    (commit_open c.args.self.now e p c.args.card 0 c.in_ok-open.field-0 c.in_ok-place.ensures
+    c.in_ok-open.ensures refl))
