@@ -8,8 +8,8 @@ use lock::sizes::Counts;
 use memory::memory::Memory;
 use std::alloc::{AllocError, Global};
 
-// The digest of the answers to all calls on a board newly set up on the memory; 0 where it is refused, since the caller
-// in C takes a number and no Result.
+// The digest of the answers to all calls on a board newly set up on the memory; 0 where it is refused, which these
+// sizes are not, since the caller in C takes a number and no Result.
 fn digest_on<M: Memory + Drop>(memory: M, calls: &[Call]) -> u64 {
     let most = Counts {
         cards: 8,
@@ -26,10 +26,9 @@ fn digest_on<M: Memory + Drop>(memory: M, calls: &[Call]) -> u64 {
 // The sum of the digests of so many runs, each on a new board.
 fn repeated(heap: Global, codes: &[u16], times: u32) -> Result<u64, AllocError> {
     let calls = calls_of(heap, codes)?;
-    let mut sum = 0u64;
-    for _ in 0..times {
-        sum = sum.wrapping_add(digest_on(Deferred::new(), calls.as_slice()));
-    }
+    let sum = (0..times).fold(0u64, |sum, _| {
+        sum.wrapping_add(digest_on(Deferred::new(), calls.as_slice()))
+    });
     Ok(sum)
 }
 

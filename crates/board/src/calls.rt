@@ -42,7 +42,8 @@ impl<M: Memory> Board<M> {
         self.door.run(calls)
     }
 
-    // Writes the nodes in line, in order, into the place, the unused numbers 0, and gives their count.
+    // Writes the nodes in line, in order, into the place, the unused numbers 0, and gives their count. The place is the
+    // caller's, of eight, as a display asks for it.
     pub fn line(&self, place: &mut [u16; 8]) -> usize
         ensures nodes { place.new
             ≡ placed (nodes_in_line (board_state M.meaning self.now).lock.meaning

@@ -38,7 +38,7 @@ impl Deferred {
         ensures { Vacant (meaning_of self.now) card cell result }
     {
         let place = Place::new(card, cell)?;
-        self.txs[card]
+        self.txs[place.card]
             .closed()
             .map_err(|refusal| place.refuse(refusal))?;
         Ok(place)
@@ -58,23 +58,23 @@ impl Memory for Deferred {
     }
 
     fn load(&mut self, card: usize, cell: usize) -> Result<u16, MemoryFault> {
-        self.vacant(card, cell)?;
-        let value = self.cells[cell];
-        doom(&mut self.txs, card, Access::Reads, cell);
+        let place = self.vacant(card, cell)?;
+        let value = self.cells[place.cell];
+        doom(&mut self.txs, place, Access::Reads);
         Ok(value)
     }
 
     fn store(&mut self, card: usize, cell: usize, value: u16) -> Result<(), MemoryFault> {
-        self.vacant(card, cell)?;
-        doom(&mut self.txs, card, Access::Writes, cell);
-        self.cells[cell] = value;
+        let place = self.vacant(card, cell)?;
+        doom(&mut self.txs, place, Access::Writes);
+        self.cells[place.cell] = value;
         Ok(())
     }
 
     #[tactic(auto, using(crate::proofs::Own::parts))]
     fn begin(&mut self, card: usize) -> Result<(), MemoryFault> {
-        self.vacant(card, 0)?;
-        self.txs[card] = Transaction::Open(Log::new());
+        let place = self.vacant(card, 0)?;
+        self.txs[place.card] = Transaction::Open(Log::new());
         Ok(())
     }
 
@@ -85,7 +85,7 @@ impl Memory for Deferred {
         let value = own_tx::read(&mut self.txs[card], place, standing).map_err(
             |refusal| place.refuse(refusal),
         )?;
-        doom(&mut self.txs, card, Access::Reads, cell);
+        doom(&mut self.txs, place, Access::Reads);
         Ok(value)
     }
 
@@ -93,14 +93,14 @@ impl Memory for Deferred {
     fn write(&mut self, card: usize, cell: usize, value: u16) -> Result<(), MemoryFault> {
         let place = Place::new(card, cell)?;
         own_tx::write(&mut self.txs[card], place, value).map_err(|refusal| place.refuse(refusal))?;
-        doom(&mut self.txs, card, Access::Writes, cell);
+        doom(&mut self.txs, place, Access::Writes);
         Ok(())
     }
 
     #[tactic(auto, using(crate::proofs::Own::parts))]
     fn commit(&mut self, card: usize) -> Result<(), MemoryFault> {
         let place = Place::new(card, 0)?;
-        let log = own_tx::take(&mut self.txs[card]).map_err(|refusal| place.refuse(refusal))?;
+        let log = own_tx::take(&mut self.txs[place.card]).map_err(|refusal| place.refuse(refusal))?;
         land(&mut self.cells, log.writes());
         Ok(())
     }
@@ -108,7 +108,7 @@ impl Memory for Deferred {
     #[tactic(auto, using(crate::proofs::Own::parts))]
     fn drop(&mut self, card: usize) -> Result<(), MemoryFault> {
         let place = Place::new(card, 0)?;
-        match mem::replace(&mut self.txs[card], Transaction::Closed) {
+        match mem::replace(&mut self.txs[place.card], Transaction::Closed) {
             Transaction::Closed => Err(place.refuse(Refusal::NoTransaction)),
             Transaction::Open(_) | Transaction::Doomed => Ok(()),
         }

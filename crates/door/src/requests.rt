@@ -1,4 +1,5 @@
-// Requests of five numbers: their form, resends, and what is remembered.
+// Requests of five numbers: their form, resends, and what is remembered. Each call promises that the sizes stay, as the
+// others do.
 ghost use Rattle.std.specs.Prelude.{◌≡◌};
 ghost use Rattle.door.specs.Door.{understood, resent, served, asked};
 ghost use Rattle.door.specs.Doors.{door_state, door_size};

@@ -18,6 +18,7 @@ fn tell(heap: Global, out: &mut String, text: &[u8]) -> Result<(), ReadFault>
     out.push_str(sizes_line(heap, sizes)?.as_str())?;
     let (count, mut rest) = take_count(rest)?;
     out.push_str(count_line(heap, count)?.as_str())?;
+    // The index is the event's number, which stands before its words.
     for index in 0..count {
         let (e, after) = take_event(rest, index)?;
         out.push_str(event_line(heap, line_of_event(index), e)?.as_str())?;

@@ -6,7 +6,7 @@ ghost use Rattle.formtext.specs.Heads.{head_text};
 use std::alloc::{AllocError, Global};
 use textline::{Event, SizeLines};
 
-// The first five lines: the sizes and the count of events.
+// The first five lines: the sizes and the count of events, a line each, and not in the words of a report.
 fn head(heap: Global, sizes: SizeLines, count: usize) -> Result<String, AllocError>
     ensures { IfOk result (λ s. string_bytes s ≡ head_text sizes count) }
 {

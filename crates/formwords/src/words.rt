@@ -75,7 +75,7 @@ pub fn count_line(heap: Global, count: u16) -> Result<String, AllocError>
     format!(in heap; "events {count}\n")
 }
 
-// The event of a line, after the number of that line.
+// The event of a line, after the number of that line. `format!` makes it, as it makes an answer's line.
 pub fn event_line(heap: Global, line: u32, e: Event) -> Result<String, AllocError>
     ensures { IfOk result (λ s. string_bytes s ≡ event_line line e) }
 {

@@ -20,7 +20,8 @@ impl InPlace {
         }
     }
 
-    // What the cell itself holds, for whoever looks inside: the newest value, which may not stand yet.
+    // What the cell itself holds, for whoever looks inside: the newest value, which may not stand yet. In the first
+    // memory it is the standing one.
     pub fn held(&self, cell: usize) -> Result<u16, MemoryFault>
         ensures { result ≡ holding self.now cell }
     {
@@ -39,12 +40,12 @@ impl Memory for InPlace {
 
     fn look(&self, cell: usize) -> Result<u16, MemoryFault> {
         let place = Place::new(0, cell)?;
-        Ok(self.standing(place.cell))
+        Ok(self.standing(place))
     }
 
     fn load(&mut self, card: usize, cell: usize) -> Result<u16, MemoryFault> {
         let place = self.vacant(card, cell)?;
-        let value = self.standing(place.cell);
+        let value = self.standing(place);
         self.serve(Access::Reads, place, Transaction::Closed);
         Ok(value)
     }
@@ -75,7 +76,7 @@ impl Memory for InPlace {
             self.restore(place, Transaction::Closed);
             return Err(place.refuse(refusal));
         }
-        let standing = self.standing(place.cell);
+        let standing = self.standing(place);
         self.serve(Access::Reads, place, Transaction::Open(log));
         Ok(standing)
     }
@@ -91,7 +92,7 @@ impl Memory for InPlace {
             return Ok(());
         }
         let mut longer = log;
-        if let Err(refusal) = longer.record(place, self.standing(place.cell)) {
+        if let Err(refusal) = longer.record(place, self.standing(place)) {
             self.restore(place, Transaction::Closed);
             return Err(place.refuse(refusal));
         }

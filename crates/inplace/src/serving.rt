@@ -31,7 +31,8 @@ impl InPlace {
         Ok(place)
     }
 
-    // The log of the card's open transaction; the refusal of a doomed one closes it.
+    // The log of the card's open transaction; the refusal of a doomed one closes it. The log stays where it is, since
+    // its old values still stand; where values are set aside it is taken out.
     pub(crate) fn open(&mut self, place: Place) -> Result<Log, MemoryFault>
         ensures { Opened self.old self.new place result }
     {
@@ -46,17 +47,16 @@ impl InPlace {
     }
 
     // The standing value: the old one that a transaction keeps, or else what is in the cell.
-    pub(crate) fn standing(&self, cell: usize) -> u16
-        requires { cell < 137 }
-        ensures { result ≡ standing (meaning_of self.now) cell }
+    pub(crate) fn standing(&self, place: Place) -> u16
+        ensures { result ≡ standing (meaning_of self.now) place.cell }
     {
-        // No `find_map`, whose contract says how the calls ran and not what they find in a list.
+        // No `find_map`: no lemma ties what it finds to a list. `find` would ask each log twice.
         for tx in &self.txs {
-            if let Some(old) = tx.value_of(cell) {
+            if let Some(old) = tx.value_of(place.cell) {
                 return old;
             }
         }
-        self.cells[cell]
+        self.cells[place.cell]
     }
 
     // Puts back what the card's transaction has written, and gives the card one that has written nothing.
@@ -81,7 +81,7 @@ impl InPlace {
         ensures after { meaning_of self.new
             ≡ served how place.card place.cell (tx_in self.old.cells own) (meaning_of self.old) }
     {
-        doom(&mut self.cells, &mut self.txs, place.card, how, place.cell);
+        doom(&mut self.cells, &mut self.txs, place, how);
         self.txs[place.card] = own;
     }
 }

@@ -1,4 +1,4 @@
-// The events that are no requests: step, abort and reuse.
+// The events that are no requests: step, abort and reuse. Each promises that the sizes stay, as the requests do.
 ghost use Rattle.std.specs.Prelude.{◌≡◌};
 ghost use Rattle.lock.specs.Lock.{stepped, aborted, reused};
 ghost use Rattle.lock.specs.Locks.{lock_state, size_of};

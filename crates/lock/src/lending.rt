@@ -7,7 +7,8 @@ ghost use Rattle.lock.specs.contracts.table.Table.{the_row};
 use crate::table::Table;
 
 impl<T> Table<T> {
-    // Lends one card's record to be changed: the table ends with what is written there, and is otherwise as it was.
+    // Lends one card's record to be changed: the table ends with what is written there, and is otherwise as it was. The
+    // card is no place of a memory, which has a cell too: whoever asks has judged it.
     pub(crate) fn card_mut(&mut self, card: usize) -> &mut T
         requires { card < 8 }
         ensures* follows { sem 𝓛

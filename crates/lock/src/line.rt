@@ -24,8 +24,8 @@ fn reader_joined(at: ReaderEntry) -> bool
     )
 }
 
-// The link of a card's node in line, 0 where the card is not in line. A link may be any number that a cell holds, and 0
-// is the memory's own form of nobody, so it stays a number and no Option.
+// The link of a card's node in line, 0 where the card is not in line. It is held against what cells hold, where 0 is
+// nobody, so it stays a number and no Option.
 fn line_link(stage: Stage) -> u16
     ensures { result ≡ line_link stage }
 {
@@ -83,7 +83,7 @@ impl<M: Memory> Lock<M> {
         link != 0 && !self.has_ahead(link)
     }
 
-    // The link of the first in line; 0 where the line is empty.
+    // The link of the first in line; 0, as a cell would say it, where the line is empty.
     fn first_link(&self) -> u16
         ensures { result
             ≡ first_link (M.meaning self.now.memory) self.now.table.records self.now.table.records }
@@ -95,7 +95,8 @@ impl<M: Memory> Lock<M> {
             .map_or(0, |card| line_link(card.stage))
     }
 
-    // Writes the nodes in line, in order, into the place, the unused numbers 0, and gives their count.
+    // Writes the nodes in line, in order, into the place, the unused numbers 0, and gives their count. The place is the
+    // caller's, of eight, as a display asks for it.
     pub fn line(&self, place: &mut [u16; 8]) -> usize
         ensures nodes { place.new
             ≡ placed (nodes_in_line (M.meaning self.now.memory) self.now.table.records) }

@@ -5,9 +5,9 @@
 use anyhow::anyhow;
 use deferred::deferred::Deferred;
 use inplace::inplace::InPlace;
-use std::alloc::Global;
 use std::env;
 use std::io::Read;
+use std::str::FromStr;
 
 // The memory that a board is set up on.
 #[derive(Clone, Copy)]
@@ -16,12 +16,19 @@ enum Choice {
     InPlace,
 }
 
-// The memory that a word names. No FromStr: the error says the word, and what allocates is passed the heap.
-fn named(heap: Global, word: &str) -> anyhow::Result<Choice> {
-    match word {
-        "deferred" => Ok(Choice::Deferred),
-        "inplace" => Ok(Choice::InPlace),
-        _ => Err(anyhow!(format!(in heap; "say deferred or inplace: no memory is called {word}")?)),
+// A word that names no memory.
+#[derive(Drop)]
+struct UnknownMemory;
+
+impl FromStr for Choice {
+    type Err = UnknownMemory;
+
+    fn from_str(word: &str) -> Result<Choice, UnknownMemory> {
+        match word {
+            "deferred" => Ok(Choice::Deferred),
+            "inplace" => Ok(Choice::InPlace),
+            _ => Err(UnknownMemory),
+        }
     }
 }
 
@@ -34,7 +41,12 @@ fn chosen(rt: HostRuntime) -> anyhow::Result<Choice> {
     if words.next().is_some() {
         return Err(anyhow!("say deferred or inplace, or nothing: there is more than one word"));
     }
-    named(rt.alloc(), word.as_str())
+    match word.as_str().parse() {
+        Ok(choice) => Ok(choice),
+        Err(UnknownMemory) => Err(anyhow!(
+            format!(in rt.alloc(); "say deferred or inplace: no memory is called {word}")?
+        )),
+    }
 }
 
 // Reads, runs and prints. An error goes to standard error, and its status is a failure.

@@ -1,4 +1,4 @@
-ghost use Rattle.std.specs.Prelude.{◌≡◌, ◌≤◌, [], ⊤};
+ghost use Rattle.std.specs.Prelude.{◌≡◌, ◌≤◌, [], length, ⊤};
 
 use crate::fault::Refusal;
 use crate::search::{Celled, find};
@@ -13,6 +13,7 @@ pub struct Few<T> {
     ghost few: { count ≤ 4 },
 }
 
+// Written out, since none is derived for a type that has both a parameter and an invariant.
 impl<T: Copy> Clone for Few<T> {
     ghost is_clone = { λ few copy. copy ≡ few };
 
@@ -39,7 +40,8 @@ impl<T: Copy> Few<T> {
 
     // The records.
     pub fn as_slice(&self) -> &[T]
-        ensures { result.now ≡ items_of self.now }
+        ensures value { result.now ≡ items_of self.now }
+        ensures len { length result.now ≡ self.now.count }
     {
         &self.items[..usize::from(self.count)]
     }

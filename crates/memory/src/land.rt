@@ -9,7 +9,7 @@ pub fn land(cells: &mut [u16], writes: &[Write])
 {
     for write in writes {
         let at = usize::from(write.cell);
-        // No `get_mut`, which tells a proof the slice's length and none of its elements.
+        // No `get_mut`, whose contract does not say what the slice is once the element was written.
         if at < cells.len() {
             cells[at] = write.value;
         }

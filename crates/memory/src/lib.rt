@@ -1,5 +1,6 @@
-// What a memory with transactions means, the trait that memories are proved against, one search for records by
-// their cell, and the law that open transactions never overlap.
+// What a memory with transactions means, the trait that memories are proved against, and the law that open transactions
+// never overlap. What memories are made of: a call's place, the log of a transaction, one search for records by their
+// cell, and the landing of values.
 #![tactic(auto)]
 
 pub mod access;

@@ -3,7 +3,7 @@ ghost use Rattle.memory.specs.Meaning.{seek};
 
 use crate::write::Write;
 
-// A record that has a cell number, as a mark, a write or an old value that is kept.
+// A record that has a cell number, as a mark or a write.
 pub trait Celled {
     ghost place: { Self → ℕ };
 

@@ -52,6 +52,7 @@ fn play<M: Memory + Drop>(
         (string_bytes out.new) result }
 {
     let (sizes, rest) = take_sizes(text)?;
+    // No From: neither type is this crate's, and what a text says is not yet what a board is asked for.
     let asked = Counts {
         cards: sizes.cards,
         nodes: sizes.nodes,
@@ -59,6 +60,7 @@ fn play<M: Memory + Drop>(
     };
     let mut board = Board::set_up(memory, asked)?;
     let (count, mut rest) = take_count(rest)?;
+    // The index is the event's number, by which a fault finds its line.
     for index in 0..count {
         let (event, after) = take_event(rest, index)?;
         let answer = take_turn(&mut board, event);

@@ -70,7 +70,7 @@ pub fn has_transaction(stage: Stage) -> bool
     }
 }
 
-// Whether a call goes by a transaction.
+// Whether a call goes by a transaction. It is for whoever holds a call; a stage is told of above.
 pub fn in_transaction(call: MemoryCall) -> bool
     ensures { result ≡ in_transaction call }
 {

@@ -35,7 +35,7 @@ pub fn cut_event(s: &[u8]) -> Option<(Event, &[u8])>
     Some((read_event(line)?, after))
 }
 
-// The event that a line without its end writes.
+// The event that a line without its end writes. The longer events are made apart, so that the match stays short.
 pub fn read_event(line: &[u8]) -> Option<Event>
     ensures { Found (Writes line.now) result }
 {

@@ -82,6 +82,7 @@ pub(crate) fn compare(heap: Global, calls: &[MemoryCall]) -> Result<Comparison, 
 {
     let mut pair = Pair::new();
     let mut rounds = Vec::new(heap);
+    // A loop, as each call changes the pair, and a round may find no room.
     for call in calls {
         let round = pair.make(*call);
         rounds.push(round)?;

@@ -8,4 +8,4 @@ use Rattle.deferred.proofs.doom.doom.Given as goal
 abbrev pub invariant-loop-i : goal.invariant-loop-i
 invariant-loop-i l =
     let ts = map tx_kept l.initial.txs in
-    map tx_kept l.txs ≡ woven l.i (others (struck l.how l.cell) l.card none ts) ts
+    map tx_kept l.txs ≡ woven l.i (others (struck l.how l.place.cell) l.place.card none ts) ts

@@ -7,7 +7,7 @@ use Rattle.inplace.proofs.inplace.InPlace.standing.Goals as goal
 
 pub loop-tx-preserved : goal.loop-tx-preserved
 loop-tx-preserved c =
-    let cell = c.args.cell in
+    let cell = c.args.place.cell in
     let ts = c.args.self.now.txs in
     let i = c.loop-tx.tx-index in
     let t = c.tx-item.result in
@@ -19,7 +19,7 @@ loop-tx-preserved c =
 
 pub returns-in-Some : goal.returns-in-Some
 returns-in-Some c =
-    let cell = c.args.cell in
+    let cell = c.args.place.cell in
     let e = c.args.self.now in
     let ts = e.txs in
     let i = c.loop-tx.tx-index in
@@ -35,7 +35,7 @@ returns-in-Some c =
 
 pub returns : goal.returns
 returns c =
-    let cell = c.args.cell in
+    let cell = c.args.place.cell in
     let e = c.args.self.now in
     let n = e.eight in
     let h : length e.txs ≤ c.loop-tx.tx-index = omega arith in
