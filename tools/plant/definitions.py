@@ -22,7 +22,8 @@ from pathlib import Path
 
 from plant import read_crates, read_faults
 
-FUNCTION = re.compile(r"(pub(\(crate\))? )?(fn|impl)\b")
+# A Clone that is written out stays, since a type that is Copy has to have one.
+FUNCTION = re.compile(r"(pub(\(crate\))? )?(fn|impl(?!.* Clone for))\b")
 TYPE = re.compile(r"^(?:pub(?:\(crate\))? )?(?:enum|struct|trait) (\w+)|^pub const (\w+)", re.MULTILINE)
 # What the door states of the customer's runs is left out, as by the faults themselves.
 RUNS = "crates/door/specs/Runs.antt"
@@ -43,15 +44,22 @@ def without_functions(text):
     return "\n".join(kept)
 
 
+def is_used(name, types, body):
+    return name in types and re.search(rf"\b{name}\b", body)
+
+
 def with_used_imports(text, types):
     """Leaves out the imports of what is no type, or is not used any more."""
     body = "\n".join(line for line in text.split("\n") if not re.match(r"(ghost )?use ", line))
     kept = []
     for line in text.split("\n"):
-        code = re.match(r"use .*::(\w+);", line)
+        code = re.match(r"use (.*)::(?:(\w+)|\{(.*)\});", line)
         ghost = re.match(r"ghost use (.*)\.\{(.*)\};", line)
-        if code and not code[1].endswith("PartialEq") and not (code[1] in types and re.search(rf"\b{code[1]}\b", body)):
-            continue
+        if code:
+            names = [name for name in (code[2] or code[3]).split(", ") if is_used(name, types, body)]
+            if not names:
+                continue
+            line = f"use {code[1]}::{names[0]};" if len(names) == 1 else f"use {code[1]}::{{{', '.join(names)}}};"
         if ghost:
             names = [name for name in ghost[2].split(", ") if name.strip("◌") in body]
             line = f"ghost use {ghost[1]}.{{{', '.join(names)}}};"
@@ -89,6 +97,7 @@ def make_copy(repo, goal, last):
         copy_crate(repo / "crates" / name, goal / "crates" / name)
     sources = list(goal.glob("crates/*/src/*.rt"))
     types = {name for path in sources for found in TYPE.findall(path.read_text()) for name in found}
+    types.add("AllocError")
     for path in sources:
         path.write_text(with_used_imports(path.read_text(), types))
     (goal / "crates.txt").write_text("".join(f"{name}: {' '.join(crates[name])}\n" for name in names))
