@@ -25,7 +25,7 @@ from plant import read_crates, read_faults
 # A Clone that is written out stays, since a type that is Copy has to have one.
 FUNCTION = re.compile(r"(pub(\(crate\))? )?(fn|impl(?!.* Clone for))\b")
 TYPE = re.compile(r"^(?:pub(?:\(crate\))? )?(?:enum|struct|trait) (\w+)|^pub const (\w+)", re.MULTILINE)
-# What the door states of the customer's runs is left out, as by the faults themselves.
+# What the door states of the runs to hold a board against is left out, as by the faults themselves.
 RUNS = "crates/door/specs/Runs.antt"
 
 

@@ -9,7 +9,7 @@ comment. A block is
 
     label: reader-doom-missed
     what: a read dooms those who marked the cell, and not those who wrote it
-    file: crates/deferred/src/logging.rt
+    file: crates/memory/src/logging.rt
     old: (Transaction::Open(log), Access::Reads) => log.wrote(cell),
     new: (Transaction::Open(log), Access::Reads) => log.marks.has(cell),
 
