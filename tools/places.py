@@ -55,8 +55,8 @@ def functions():
 
 
 def shape(body):
-    body = re.sub(r"//.*", "", body)
-    return " ".join(re.sub(r"\b[A-Za-z_]\w*\b|\b\d+\b|\"[^\"]*\"", "x", t) for t in re.findall(r"\"[^\"]*\"|\w+|\S", body))
+    words = re.findall(r"\"[^\"]*\"|\w+|\S", re.sub(r"//.*", "", body))
+    return " ".join(re.sub(r"\b[A-Za-z_]\w*\b|\b\d+\b|\"[^\"]*\"", "x", word) for word in words)
 
 
 def groups(pairs, least):
@@ -86,7 +86,8 @@ def main():
     kinds = groups(((re.search(r"(?:enum|struct) (\w+)", line).group(1), line) for line in types), 2)
     shown("2 types of one name", (f"{k}: {len(v)}" for k, v in kinds))
     shown("3 loops", lines(r"\bwhile \b|\bloop \{|\bfor .* in .*\{$"))
-    shown("4 impls of a conversion or of printing", lines(r"impl.* (From<|TryFrom<|FromStr|fmt::Display|PartialEq|Ord)"))
+    impls = r"impl.* (From<|TryFrom<|FromStr|fmt::Display|PartialEq|Ord)"
+    shown("4 impls of a conversion or of printing", lines(impls))
     shown("4 casts", lines(r" as (u8|u16|u32|u64|usize)\b"))
     shown("4 numbers of refusals and kinds", lines(r"fn (number|code|decode|named)\b"))
     clauses = groups(((c, n) for n, _, cs, _ in every for c in cs), 3)
@@ -95,7 +96,8 @@ def main():
                     if "self" not in p and ":" in p and ":" in q), 3)
     shown("5 parameters of three or more", (f"{len(v)} {k[0]}, {k[1]}: {', '.join(sorted(set(v)))}" for k, v in pairs))
     shown("6 arrays", lines(r"\w+: (&mut )?\[\w+; ?\w+\]"))
-    shown("7 a switch on a step, a call or a choice", lines(r"match \(?(call|choice|what|event|stage|request|card\.stage)\b"))
+    switches = r"match \(?(call|choice|what|event|stage|request|card\.stage)\b"
+    shown("7 a switch on a step, a call or a choice", lines(switches))
     shown("8 lines of proof by function", (
         f"{crate}: {sum(len(open(f, encoding='utf-8').read().splitlines()) for f in files)}"
         for crate in sorted(os.listdir(os.path.join(ROOT, "crates")))
