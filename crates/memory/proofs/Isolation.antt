@@ -251,15 +251,15 @@ grown_write cell value ms ws vs e = record {
   looked = λ q w. let z : ◌≡◌ {A = ℕ} 0 1 = cc in absurd (omega arith);
 }
 
--- a cleared memory has no transaction
-pub clear_none : (n d : ℕ) → get_or (replicate n none) d none ≡ none
-clear_none zero d = refl
-clear_none (suc n) zero = refl
-clear_none (suc n) (suc d) = clear_none n d
+-- a list of the same everywhere, and past its end as well
+pub all_same : {X : Type 0} (n i : ℕ) (x : X) → get_or (replicate n x) i x ≡ x
+all_same zero i x = refl
+all_same (suc n) zero x = refl
+all_same (suc n) (suc i) x = all_same n i x
 
--- so no two overlap
+-- no two transactions of a cleared memory overlap
 apart_clear : (d cell : ℕ) → has_touched (tx_of cleared d) cell ≡ false
-apart_clear d cell = ap (λ t. has_touched t cell) (clear_none 8 d)
+apart_clear d cell = ap (λ t. has_touched t cell) (all_same 8 d none)
 
 -- every call keeps transactions apart
 pub apart_kept : Kept Apart
