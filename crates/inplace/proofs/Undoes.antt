@@ -8,6 +8,7 @@ use Rattle.std.proofs.lemmas.Bool.{cond-false}
 use Rattle.memory.specs.declared.write.Write.{Write}
 use Rattle.memory.specs.Meaning.{wrote, landed, value_in}
 use Rattle.memory.proofs.Isolation.{clash}
+use Rattle.memory.proofs.Lasting.{landed_other}
 use Rattle.inplace.specs.Undo.{distinct, written}
 
 -- Cells that writes lack.
@@ -165,16 +166,7 @@ landed_without cs (a ∷ ls) us rs e =
     landed_without (set cs a.cell a.value) ls us rs h.1
     ∙ ap (λ l. landed l (ls ++ rs)) (landed_set cs us a.cell a.value k)
 
--- a cell that the writes lack keeps its value
-pub landed_other : (cs : List ℕ) (us : List Write) (c : ℕ) → wrote us c ≡ false
-    → get_or (landed cs us) c 0 ≡ get_or cs c 0
-landed_other cs [] c e = refl
-landed_other cs (u ∷ us) c e =
-    let h = lacks_head u us c e in
-    let n : c ≢ u.cell = λ q. h.0 (sym q) in
-    landed_other (set cs u.cell u.value) us c h.1 ∙ get_or-set_other cs u.cell c u.value 0 n
-
--- so what other writes have put there is still there
+-- what other writes have put into cells is still there
 pub written_other : (cs : List ℕ) (us vs : List Write) → Other vs us
     → map (written (landed cs us)) vs ≡ map (written cs) vs
 written_other cs us [] a = refl
