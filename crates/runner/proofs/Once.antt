@@ -2,7 +2,6 @@
 use Rattle.std.proofs.Common.{◌≡◌, ℕ, zero, suc, ◌+◌, ◌<◌, ◌≤◌, List, [], ◌∷◌, ◌++◌, map, length, take, drop, Ok, Err}
 use Rattle.std.proofs.Common.{Result, sym, refl, ap, ◌∙◌, subst, append_assoc, arith}
 use Rattle.std.specs.List.{AllByRecursion}
-use Rattle.std.proofs.ByRecursion.{All-map, All-weaker}
 use Rattle.std.proofs.lemmas.List.{take-take, take_all, length-map}
 use Rattle.lock.specs.declared.fault.SizeFault.{SizeFault}
 use Rattle.lock.specs.Lock.{Size}
@@ -12,22 +11,16 @@ use Rattle.textline.specs.declared.faults.FormFault.TheVariants.{BadLine}
 use Rattle.textline.specs.Events.{written, numbers_of}
 use Rattle.textline.specs.Lines.{NoEnd}
 use Rattle.textline.specs.Numbers.{Small}
-use Rattle.textline.proofs.Ends.{no_end_decimal, no_end_written}
+use Rattle.textline.proofs.Ends.{no_end_decimal}
 use Rattle.schedule.specs.Schedules.{front_of, lines_of, text_of, Fits, StopsAt}
 use Rattle.schedule.specs.Sections.{SizeSection}
-use Rattle.schedule.proofs.Fronts.{peel}
-use Rattle.schedule.proofs.Once.{one_event, one_rendering}
-use Rattle.schedule.proofs.Progress.{same_sizes, early_none}
+use Rattle.schedule.proofs.Fronts.{peel, event_ends}
+use Rattle.schedule.proofs.Once.{same_events, one_rendering}
+use Rattle.schedule.proofs.Progress.{text_split, same_sizes, early_none}
 use Rattle.report.specs.Texts.{bad_line, sizes_line}
 use Rattle.runner.specs.Prints.{answered, queued, asks, Reaches, Runs, OnePrint}
 use Rattle.runner.specs.Prints.Runs.{uncounted, stopped, finished}
 use Rattle.runner.specs.Prints.Prints.{long, unsized, refused, ran}
-
-text_split : (ls : List (List ℕ)) (k : ℕ) → text_of ls ≡ text_of (take k ls) ++ text_of (drop k ls)
-text_split ls zero = refl
-text_split [] (suc k) = refl
-text_split (l ∷ ls) (suc k) =
-    ap (λ x. l ++ (10 ∷ x)) (text_split ls k) ∙ sym (append_assoc l (10 ∷ text_of (take k ls)) (text_of (drop k ls)))
 
 -- a text that begins with some lines of a schedule begins with fewer of them
 fits_fewer : (j k : ℕ) (bs : List ℕ) → j ≤ k → Fits k bs → Fits j bs
@@ -74,22 +67,6 @@ sized_past bs after s line section stop le =
     })
     le
 
--- events can be told from their lines
-same_events : (es fs : List Event) → AllByRecursion (λ e. Small (numbers_of e)) es
-    → AllByRecursion (λ e. Small (numbers_of e)) fs
-    → map written es ≡ map written fs → es ≡ fs
-same_events [] [] p q e = refl
-same_events [] (f ∷ fs) p q e =
-    let z : length (map written []) ≡ length (map written (f ∷ fs)) = ap length e in absurd (omega arith)
-same_events (a ∷ es) [] p q e =
-    let z : length (map written (a ∷ es)) ≡ length (map written []) = ap length e in absurd (omega arith)
-same_events (a ∷ es) (f ∷ fs) p q e =
-    let h : written a ≡ written f = cc in
-    let t : map written es ≡ map written fs = cc in
-    let head = one_event a f p.0 q.0 h in
-    let tail = same_events es fs p.1 q.1 t in
-    (λ i. head i ∷ tail i)
-
 module _ (bs head : List ℕ) (s : SizeLines) (section : SizeSection bs s head) where
   -- no line that is reached has a line end within it
   no_ends : (count : ℕ) (done : List Event) (rest : List ℕ) → Reaches bs s count done rest
@@ -105,8 +82,7 @@ module _ (bs head : List ℕ) (s : SizeLines) (section : SizeSection bs s head) 
               no_end_decimal s.counters section.small.1.1.0,
               (
                 no_end_decimal count (omega arith),
-                All-map NoEnd written done
-                    (All-weaker (λ e. Small (numbers_of e)) (λ e. NoEnd (written e)) no_end_written done r.small),
+                event_ends done r.small,
               ),
             ),
           ),
