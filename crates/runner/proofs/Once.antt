@@ -1,5 +1,5 @@
 -- What is printed for a text is one. Assumes nothing.
-use Rattle.std.proofs.Common.{◌≡◌, ℕ, zero, suc, ◌+◌, ◌<◌, ◌≤◌, List, [], ◌∷◌, ◌++◌, map, length, take, drop, Ok, Err}
+use Rattle.std.proofs.Common.{◌≡◌, ℕ, ◌+◌, ◌<◌, ◌≤◌, List, [], ◌++◌, map, length, take, drop, Ok, Err}
 use Rattle.std.proofs.Common.{Result, sym, refl, ap, ◌∙◌, subst, append_assoc, arith}
 use Rattle.std.specs.List.{AllByRecursion}
 use Rattle.std.proofs.lemmas.List.{take-take, take_all, length-map}
@@ -8,9 +8,8 @@ use Rattle.lock.specs.Lock.{Size}
 use Rattle.textline.specs.declared.events.Event.{Event}
 use Rattle.textline.specs.declared.events.SizeLines.{SizeLines}
 use Rattle.textline.specs.declared.faults.FormFault.TheVariants.{BadLine}
-use Rattle.textline.specs.Events.{written, numbers_of}
+use Rattle.textline.specs.Events.{written}
 use Rattle.textline.specs.Lines.{NoEnd}
-use Rattle.textline.specs.Numbers.{Small}
 use Rattle.textline.proofs.Ends.{no_end_decimal}
 use Rattle.schedule.specs.Schedules.{front_of, lines_of, text_of, Fits, StopsAt}
 use Rattle.schedule.specs.Sections.{SizeSection}
