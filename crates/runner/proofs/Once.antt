@@ -123,7 +123,7 @@ module _ (bs head : List ℕ) (s : SizeLines) (section : SizeSection bs s head) 
 
 -- sizes are refused or not
 not_both : (r : Result Size SizeFault) (z : Size) (e : SizeFault) → r ≡ Ok z → r ≡ Err e → ⊥
-not_both r z e p q = let w : ◌≡◌ {A = ℕ} 0 1 = cc in omega arith
+not_both r z e p q = cc
 
 one_fault : (r : Result Size SizeFault) (d e : SizeFault) → r ≡ Err d → r ≡ Err e → d ≡ e
 one_fault r d e p q = cc
