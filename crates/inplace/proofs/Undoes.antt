@@ -1,6 +1,6 @@
 -- Writes that are landed, where no two are of one cell.
 use Rattle.std.proofs.Common.{◌≡◌, ℕ, ◌<◌, Bool, true, false, cond, eqb, ◌≢◌, List, [], ◌∷◌, ◌++◌, map, length, get_or}
-use Rattle.std.proofs.Common.{set, Some, None, sym, refl, ap, ◌∙◌, subst, arith, length-set, get_or-set_other}
+use Rattle.std.proofs.Common.{set, Some, None, sym, refl, ap, ◌∙◌, subst, length-set}
 use Rattle.std.proofs.Common.{get_or-set_same, ne_eqb, eqb-true}
 use lib.Seq.{set_comm}
 use borrow.Author.Tests.{eqb-false}
@@ -182,11 +182,11 @@ value_lacks [] c e = refl
 value_lacks (u ∷ us) c e =
     (elim (eqb u.cell c) as
     (λ b. cond b (Some u.value) (value_in us c) ≡ None → cond b true (wrote us c) ≡ false)
-    [ true ↦ λ r. let z : ◌≡◌ {A = ℕ} 0 1 = cc in absurd (omega arith) | false ↦ λ r. value_lacks us c r ]) e
+    [ true ↦ λ r. cc | false ↦ λ r. value_lacks us c r ]) e
 
 -- a value in the first part is the value
 pub value_append : (us vs : List Write) (c v : ℕ) → value_in us c ≡ Some v → value_in (us ++ vs) c ≡ Some v
-value_append [] vs c v e = let z : ◌≡◌ {A = ℕ} 0 1 = cc in absurd (omega arith)
+value_append [] vs c v e = cc
 value_append (u ∷ us) vs c v e =
     (elim (eqb u.cell c) as
     (λ b. cond b (Some u.value) (value_in us c) ≡ Some v
@@ -204,7 +204,7 @@ value_skip (u ∷ us) vs c e =
 -- of distinct writes, the one of a cell gives its value
 pub landed_at : (cs : List ℕ) (us : List Write) (c v : ℕ) → distinct us ≡ true → c < length cs
     → value_in us c ≡ Some v → get_or (landed cs us) c 0 ≡ v
-landed_at cs [] c v d h e = let z : ◌≡◌ {A = ℕ} 0 1 = cc in absurd (omega arith)
+landed_at cs [] c v d h e = cc
 landed_at cs (u ∷ us) c v d h e =
     go (eqb u.cell c) refl e
     (landed_at (set cs u.cell u.value) us c v (distinct_head u us d).1 (rw length-set h)) where

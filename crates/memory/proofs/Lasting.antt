@@ -56,17 +56,17 @@ landed_other cs (w ∷ ws) x e = go (eqb w.cell x) refl (landed_other (set cs w.
         → (wrote ws x ≡ false → get_or (landed (set cs w.cell w.value) ws) x 0
         ≡ get_or (set cs w.cell w.value) x 0)
         → cond b true (wrote ws x) ≡ false → get_or (landed (set cs w.cell w.value) ws) x 0 ≡ get_or cs x 0
-    go true q h e = absurd (true≢false e)
+    go true q h e = cc
     go false q h e = h e ∙ get_or-set_other cs w.cell x w.value 0 (λ p. eqb-false w.cell x q (sym p))
 
 -- a cell without a write has no value set aside
 no_value : (ws : List Write) (x v : ℕ) → wrote ws x ≡ false → value_in ws x ≡ Some v → ⊥
-no_value [] x v e q = absurd (true≢false cc)
+no_value [] x v e q = cc
 no_value (w ∷ ws) x v e q = go (eqb w.cell x) (no_value ws x v) e q
   where
     go : (b : Bool) → (wrote ws x ≡ false → value_in ws x ≡ Some v → ⊥) → cond b true (wrote ws x) ≡ false
         → cond b (Some w.value) (value_in ws x) ≡ Some v → ⊥
-    go true h e q = absurd (true≢false e)
+    go true h e q = cc
     go false h e q = h e q
 
 -- a transaction that is open after another card's access was open before, and not in its way
@@ -76,7 +76,7 @@ struck_open a cell t ms ws = go (conflicts a cell t) refl
   where
     go : (b : Bool) → conflicts a cell t ≡ b → cond b doomed t ≡ live ms ws
         → (t ≡ live ms ws) × (conflicts a cell t ≡ false)
-    go true p q = absurd (true≢false cc)
+    go true p q = cc
     go false p q = (q, p)
 
 -- Card c has marked cell x in its transaction, and read v there.
@@ -90,7 +90,7 @@ module _ (c x v : ℕ) where
 
   -- one that is not open
   none_holds : (s : ℕ) → TxHolds none s
-  none_holds s ms ws e = absurd (true≢false cc)
+  none_holds s ms ws e = cc
 
   -- an open one
   live_holds : (ms : List ℕ) (ws : List Write) (s : ℕ) → marked ms x ≡ true → s ≡ v → TxHolds (live ms ws) s
@@ -274,7 +274,7 @@ module _ (c x v : ℕ) where
       by_mark ms ws (Some ns) p q = let z : standing m x ≡ v = cc in
           set_at (λ t. TxHolds t (standing m x)) (map (struck Reads x) m.txs) c (live ns ws)
           (live_holds ns ws (standing m x) (marked_own ms ns x p) z) (none_holds _)
-      by_mark ms ws None p q = absurd (true≢false cc)
+      by_mark ms ws None p q = cc
 
       by_value : (ms : List ℕ) (ws : List Write) (o : Option ℕ) → wrote ws x ≡ false → value_in ws x ≡ o
           → (read_open m c x ms ws o).answer ≡ Ok v → Holds (read_open m c x ms ws o).after
@@ -282,14 +282,14 @@ module _ (c x v : ℕ) where
       by_value ms ws None k p q = by_mark ms ws (marking ms x) refl q
 
       by_tx : (t : Tx) → tx_of m c ≡ t → (read_at m c x t).answer ≡ Ok v → Holds (read_at m c x t).after
-      by_tx none e q = absurd (true≢false cc)
-      by_tx doomed e q = absurd (true≢false cc)
+      by_tx none e q = cc
+      by_tx doomed e q = cc
       by_tx (live ms ws) e q = by_value ms ws (value_in ws x) (ap (λ t. has_written t x) (sym e) ∙ n) refl q
 
       by_range : (b : Bool) → (cond b (read_at m c x (tx_of m c)) (refused OutOfRange c x m)).answer ≡ Ok v
           → Holds (cond b (read_at m c x (tx_of m c)) (refused OutOfRange c x m)).after
       by_range true q = by_tx (tx_of m c) refl q
-      by_range false q = absurd (true≢false cc)
+      by_range false q = cc
 
 -- so it is in every run
 pub reads_last : ReadsLast

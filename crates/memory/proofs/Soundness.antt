@@ -103,7 +103,7 @@ few_marking ms ns cell F h e = go (marked ms cell) (ltb (length ms) 4) refl refl
   go false true p r q =
       let z : ms ++ cell ∷ [] ≡ ns = cc in
       subst (Few (λ k. k)) z (few_more (λ k. k) ms cell F (ltb-true (length ms) 4 r) p h)
-  go false false p r q = let z : ◌≡◌ {A = ℕ} 0 1 = cc in absurd (omega arith)
+  go false false p r q = cc
 
 -- another value for a cell leaves as many writes
 length_replaced : (ws : List Write) (cell value : ℕ) → length (replaced ws cell value) ≡ length ws
@@ -144,7 +144,7 @@ few_recording ws vs cell value F h e = go (wrote ws cell) (ltb (length ws) 4) re
   go false true p r q =
       let z : ws ++ record { cell = cell; value = value } ∷ [] ≡ vs = cc in
       subst (Few place) z (few_more place ws (record { cell = cell; value = value }) F (ltb-true (length ws) 4 r) p h)
-  go false false p r q = let z : ◌≡◌ {A = ℕ} 0 1 = cc in absurd (omega arith)
+  go false false p r q = cc
 
 -- Orderly transactions.
 -- of every card
