@@ -14,7 +14,7 @@ pub within_of : (z : Sizes) → Within (size_of z)
 within_of z = record { cards = z.few_cards.1; nodes = z.few_nodes.1; counters = z.few_counters.1 }
 
 -- what set-up makes of a judgement of sizes
-abbrev made_of : {X : Type 0} → X → Result Size SizeFault → Result (Size × DoorState) (Unfit X)
+abbrev pub made_of : {X : Type 0} → X → Result Size SizeFault → Result (Size × DoorState) (Unfit X)
 made_of memory (Ok z) = Ok (z, new_door)
 made_of memory (Err e) = Err (record { fault = e; memory = memory })
 
@@ -23,10 +23,10 @@ fresh_by : {X : Type 0} (memory : X) (j : Result Size SizeFault) (r : Result (Si
     (s : DoorState) → r ≡ Ok (z, s) → r ≡ made_of memory j → s ≡ new_door
 fresh_by memory (Ok y) r z s p q =
     let e : ◌≡◌ {A = Size × DoorState} (z, s) (y, new_door) = cc in ap (λ (w : Size × DoorState). w.1) e
-fresh_by memory (Err e) r z s p q = let w : ◌≡◌ {A = ℕ} 0 1 = cc in absurd (omega arith)
+fresh_by memory (Err e) r z s p q = cc
 
 -- set-up as a judgement of sizes
-made_is : {X : Type 0} (memory : X) (j : Result Size SizeFault)
+pub made_is : {X : Type 0} (memory : X) (j : Result Size SizeFault)
     → ◌≡◌ {A = Result (Size × DoorState) (Unfit X)}
     (elim j [ Ok z ↦ Ok (z, new_door) | Err e ↦ Err (record { fault = e; memory = memory }) ]) (made_of memory j)
 made_is memory (Ok z) = refl

@@ -1,9 +1,8 @@
 -- What is printed for a text is one. Assumes nothing.
-use Rattle.std.proofs.Common.{◌≡◌, ℕ, ◌+◌, ◌<◌, ◌≤◌, List, [], ◌++◌, map, length, take, drop, Ok, Err}
-use Rattle.std.proofs.Common.{Result, sym, refl, ap, ◌∙◌, subst, append_assoc, arith}
+use Rattle.std.proofs.Common.{◌≡◌, ℕ, ◌+◌, ◌<◌, ◌≤◌, List, [], ◌++◌, map, length, take, drop}
+use Rattle.std.proofs.Common.{sym, refl, ap, ◌∙◌, subst, append_assoc, arith}
 use Rattle.std.specs.List.{AllByRecursion}
 use Rattle.std.proofs.lemmas.List.{take-take, take_all, length-map}
-use Rattle.lock.specs.declared.fault.SizeFault.{SizeFault}
 use Rattle.lock.specs.Lock.{Size}
 use Rattle.textline.specs.declared.events.Event.{Event}
 use Rattle.textline.specs.declared.events.SizeLines.{SizeLines}
@@ -121,16 +120,6 @@ module _ (bs head : List ℕ) (s : SizeLines) (section : SizeSection bs s head) 
       ap (λ l. answered z l ++ queued z l)
       (one_rendering s s es fs p.sound q.sound (sym p.text ∙ q.text)).1
 
--- sizes are refused or not
-not_both : (r : Result Size SizeFault) (z : Size) (e : SizeFault) → r ≡ Ok z → r ≡ Err e → ⊥
-not_both r z e p q = cc
-
-one_fault : (r : Result Size SizeFault) (d e : SizeFault) → r ≡ Err d → r ≡ Err e → d ≡ e
-one_fault r d e p q = cc
-
-one_size : (r : Result Size SizeFault) (y z : Size) → r ≡ Ok y → r ≡ Ok z → y ≡ z
-one_size r y z p q = cc
-
 -- all that is printed is one
 pub one_print : OnePrint
 one_print bs _ _ (long p) (long q) = refl
@@ -148,16 +137,17 @@ one_print bs _ _ (refused s after e short section is) (long q) = absurd (omega a
 one_print bs _ _ (refused s after e short section is) (unsized line shorter le stop) =
     absurd (sized_past bs after s line section stop le)
 one_print bs _ _ (refused s after e short section is) (refused t behind f shorter part are) =
-    ap sizes_line (one_fault (asks s) e f is (ap asks (same_sizes bs after behind s t section part) ∙ are))
+    let fault : e ≡ f = cc (is, ap asks (same_sizes bs after behind s t section part) ∙ are) in
+    ap sizes_line fault
 one_print bs _ _ (refused s after e short section is) (ran t behind z x shorter part are runs) =
-    absurd (not_both (asks t) z e are (ap asks (same_sizes bs behind after t s part section) ∙ is))
+    cc (are, ap asks (same_sizes bs behind after t s part section) ∙ is)
 one_print bs _ _ (ran s after z x short section is runs) (long q) = absurd (omega arith)
 one_print bs _ _ (ran s after z x short section is runs) (unsized line shorter le stop) =
     absurd (sized_past bs after s line section stop le)
 one_print bs _ _ (ran s after z x short section is runs) (refused t behind e shorter part are) =
-    absurd (not_both (asks s) z e is (ap asks (same_sizes bs after behind s t section part) ∙ are))
+    cc (is, ap asks (same_sizes bs after behind s t section part) ∙ are)
 one_print bs _ _ (ran s after z x short section is runs) (ran t behind y w shorter part are goes) =
     let same = same_sizes bs after behind s t section part in
-    let size = one_size (asks s) z y is (ap asks same ∙ are) in
+    let size : z ≡ y = cc (is, ap asks same ∙ are) in
     one_run bs after s section z x w runs
     (subst (λ v. Runs bs s v w) (sym size) (subst (λ u. Runs bs u y w) (sym same) goes))

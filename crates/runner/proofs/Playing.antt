@@ -5,7 +5,7 @@ use Rattle.std.proofs.lemmas.List.{length_push}
 use Rattle.memory.specs.Meaning.{Meaning}
 use Rattle.stages.specs.declared.answer.Answer.{Answer}
 use Rattle.lock.specs.declared.fault.SizeFault.{SizeFault}
-use Rattle.lock.specs.Lock.{Size, sized}
+use Rattle.lock.specs.Lock.{Size}
 use Rattle.door.specs.declared.fault.DoorFault.{DoorFault}
 use Rattle.door.specs.declared.fault.Unfit.{Unfit}
 use Rattle.door.specs.Door.{DoorState, new_door, called}
@@ -15,6 +15,7 @@ use Rattle.board.specs.declared.board.Board.{Board}
 use Rattle.board.specs.Boards.{given_by}
 use Rattle.board.specs.Book.{Follows}
 use Rattle.board.specs.History.{board_state, board_size, Carries, StandsAfter}
+use Rattle.board.proofs.Sizes.{made_of, made_is}
 use Rattle.textline.specs.declared.events.Event.{Event}
 use Rattle.textline.specs.declared.events.SizeLines.{SizeLines}
 use Rattle.textline.specs.declared.faults.FormFault.{FormFault}
@@ -33,19 +34,6 @@ use Rattle.runner.specs.Prints.Runs.{uncounted, stopped, finished}
 use Rattle.runner.specs.Prints.Prints.{long, unsized, ran}
 use Rattle.runner.specs.Plays.{Plays, Ends}
 use Rattle.runner.proofs.Answering.{calls_push, state_push, answered_push}
-
--- what set_up makes of a judgement of sizes
-abbrev made_of : {X : Type 0} → X → Result Size SizeFault → Result (Size × DoorState) (Unfit X)
-made_of memory (Ok z) = Ok (z, new_door)
-made_of memory (Err e) = Err (record { fault = e; memory = memory })
-
-set_up_is : {X : Type 0} (memory : X) (c n k : ℕ) → set_up memory c n k ≡ made_of memory (sized c n k)
-set_up_is memory c n k = same (sized c n k)
-  where
-    same : (j : Result Size SizeFault)
-        → elim j [ Ok z ↦ Ok (z, new_door) | Err e ↦ Err (record { fault = e; memory = memory }) ] ≡ made_of memory j
-    same (Ok z) = refl
-    same (Err e) = refl
 
 made_ok : {X : Type 0} (memory : X) (j : Result Size SizeFault) (z : Size) (s : DoorState)
     → Ok (z, s) ≡ made_of memory j → (j ≡ Ok z) × (s ≡ new_door)
@@ -67,12 +55,12 @@ pub sized_up : {X : Type 0} (meaning : X → Meaning) (memory : X) (s : SizeLine
     → (asks s ≡ Ok (board_size b)) × (board_state meaning b ≡ new_door)
 sized_up meaning memory s b e =
     made_ok memory (asks s) (board_size b) (board_state meaning b)
-    (e ∙ set_up_is memory s.cards s.nodes s.counters)
+    (e ∙ made_is memory (asks s))
 
 -- the sizes of none
 pub not_sized : {X : Type 0} (meaning : X → Meaning) (memory : X) (s : SizeLines) (u : Unfit X)
     → given_by meaning (Err u) ≡ set_up memory s.cards s.nodes s.counters → asks s ≡ Err u.fault
-not_sized meaning memory s u e = made_err memory (asks s) u (e ∙ set_up_is memory s.cards s.nodes s.counters)
+not_sized meaning memory s u e = made_err memory (asks s) u (e ∙ made_is memory (asks s))
 
 module _ {X : Type 0} (meaning : X → Meaning) where
   -- a fault of the form is passed on
