@@ -1,5 +1,5 @@
 -- The sizes of a board are within the ranges: their type says so. And a board that was set up is new.
-use Rattle.std.proofs.Common.{◌≡◌, ℕ, Ok, Err, Result, refl, ap, ◌∙◌, arith}
+use Rattle.std.proofs.Common.{◌≡◌, ℕ, Ok, Err, Result, refl, ap, ◌∙◌}
 use Rattle.lock.specs.declared.fault.SizeFault.{SizeFault}
 use Rattle.lock.specs.Lock.{Size, sized}
 use Rattle.door.specs.declared.fault.Unfit.{Unfit}

@@ -48,7 +48,8 @@ marked_kept ms ns cell x e h = ⊎_elim
     (λ (n : x ≡ cell → ⊥). marked_marking ms ns cell x e n ∙ h) (cases_eq x cell)
 
 -- values that become standing leave every other cell
-pub landed_other : (cs : List ℕ) (ws : List Write) (x : ℕ) → wrote ws x ≡ false → get_or (landed cs ws) x 0 ≡ get_or cs x 0
+pub landed_other : (cs : List ℕ) (ws : List Write) (x : ℕ) → wrote ws x ≡ false
+    → get_or (landed cs ws) x 0 ≡ get_or cs x 0
 landed_other cs [] x e = refl
 landed_other cs (w ∷ ws) x e = go (eqb w.cell x) refl (landed_other (set cs w.cell w.value) ws x) e
   where
