@@ -3,6 +3,7 @@ use Rattle.std.proofs.Common.{◌≡◌, ℕ, zero, suc, ◌<◌, Bool, true, fa
 use Rattle.std.proofs.Common.{replicate, Some, None, Ok, Err, Option, Result, sym, refl, ap, subst, arith}
 use Rattle.std.proofs.lemmas.Bool.{ltb-true}
 use Rattle.memory.specs.Meaning.{Tx, none, standing, tx_of, cleared}
+use Rattle.memory.proofs.Isolation.{all_same}
 use Rattle.stages.specs.declared.answer.Answer.{Answer}
 use Rattle.stages.specs.declared.stage.Stage.TheVariants.{Idle}
 use Rattle.stages.specs.declared.stage.Card.{Card}
@@ -33,12 +34,6 @@ use Rattle.board.proofs.Frames.{new_line}
 use Rattle.board.proofs.Laws.{Lawful, new_lawful, lawful_after}
 use Rattle.board.proofs.Keeps.{Safe, Fine, Good, served_good, step_keeps, abort_keeps, reuse_keeps}
 use Rattle.board.proofs.Promised.{stands}
-
--- a list of the same everywhere
-all_same : {A : Type 0} (n i : ℕ) (a : A) → get_or (replicate n a) i a ≡ a
-all_same zero i a = refl
-all_same (suc n) zero a = refl
-all_same (suc n) (suc i) a = all_same n i a
 
 -- the answer to a card's last request, where it has one, is no refusal of the memory
 abbrev pub FineLast : Option Remembered → Type 0

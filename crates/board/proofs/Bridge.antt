@@ -15,6 +15,7 @@ use Rattle.memory.specs.Meaning.{value_in, marking, recording}
 use Rattle.memory.specs.Meaning.{load_at, store_at, begin_at, read_marking, read_open, read_at, write_open, write_at}
 use Rattle.memory.specs.Meaning.{commit_at, drop_at}
 use Rattle.memory.specs.Calls.{performed, as_zero}
+use Rattle.memory.proofs.Soundness.{length_landed, length_served}
 use Rattle.stages.specs.declared.stage.Stage.{Stage}
 use Rattle.stages.specs.declared.stage.Card.{Card}
 use Rattle.lock.specs.Lock.{LockState, stage_of, staged, idle_card}
@@ -49,10 +50,6 @@ served_is : (k : Access) (c a : ℕ) (own : Tx) (m : Meaning) → c < length m.t
 served_is k c a own m h = set_is none (map (struck k a) m.txs) c own (rw (length-map m.txs (struck k a)) h)
     ∙ ap (λ (t : ℕ → Tx). at t c own) (fun_ext (struck_at k a m.txs))
 
--- there are as many transactions as before
-served_length : (k : Access) (c a : ℕ) (own : Tx) (m : Meaning) → length (served k c a own m).txs ≡ length m.txs
-served_length k c a own m = length-set (map (struck k a) m.txs) c own ∙ length-map m.txs (struck k a)
-
 -- the cells of some writes lie below b
 abbrev pub Below : ℕ → List Write → Type 0
 Below b [] = Unit {0}
@@ -71,11 +68,6 @@ landed_is [] cs e h = refl
 landed_is (w ∷ ws) cs e h =
     landed_is ws (set cs w.cell w.value) (length-set cs w.cell w.value ∙ e) h.1
     ∙ ap (lands ws) (set_is 0 cs w.cell w.value (rw e h.0))
-
--- there are as many cells as before
-landed_length : (ws : List Write) (cs : List ℕ) → length (landed cs ws) ≡ length cs
-landed_length [] cs = refl
-landed_length (w ∷ ws) cs = landed_length ws (set cs w.cell w.value) ∙ length-set cs w.cell w.value
 
 -- an outcome of a call of the memory is that of the call seen through functions, and the lengths are kept
 pub record Same (o : Outcome ℕ) (p : Out) : Type 0 where
@@ -99,7 +91,7 @@ module _ (m : Meaning) (hc : length m.cells ≡ 137) (ht : length m.txs ≡ 8) (
     tx = served_is Reads c a none m card;
     answer = refl;
     cells = hc;
-    txs = served_length Reads c a none m ∙ ht;
+    txs = length_served Reads c a none m ∙ ht;
   }
   same_load a (live r w) = record { cell = refl; tx = refl; answer = refl; cells = hc; txs = ht }
   same_load a doomed = record { cell = refl; tx = refl; answer = refl; cells = hc; txs = ht }
@@ -112,7 +104,7 @@ module _ (m : Meaning) (hc : length m.cells ≡ 137) (ht : length m.txs ≡ 8) (
     tx = served_is Writes c a none m card;
     answer = refl;
     cells = length-set m.cells a v ∙ hc;
-    txs = served_length Writes c a none m ∙ ht;
+    txs = length_served Writes c a none m ∙ ht;
   }
   same_store a v h (live r w) = record { cell = refl; tx = refl; answer = refl; cells = hc; txs = ht }
   same_store a v h doomed = record { cell = refl; tx = refl; answer = refl; cells = hc; txs = ht }
@@ -137,7 +129,7 @@ module _ (m : Meaning) (hc : length m.cells ≡ 137) (ht : length m.txs ≡ 8) (
     tx = served_is Reads c a (live r w) m card;
     answer = refl;
     cells = hc;
-    txs = served_length Reads c a (live r w) m ∙ ht;
+    txs = length_served Reads c a (live r w) m ∙ ht;
   }
   same_mark a w None = record {
     cell = refl;
@@ -154,7 +146,7 @@ module _ (m : Meaning) (hc : length m.cells ≡ 137) (ht : length m.txs ≡ 8) (
     tx = served_is Reads c a (live r w) m card;
     answer = refl;
     cells = hc;
-    txs = served_length Reads c a (live r w) m ∙ ht;
+    txs = length_served Reads c a (live r w) m ∙ ht;
   }
   same_value a r w None = same_mark a w (marking r a)
 
@@ -177,7 +169,7 @@ module _ (m : Meaning) (hc : length m.cells ≡ 137) (ht : length m.txs ≡ 8) (
     tx = served_is Writes c a (live r w) m card;
     answer = refl;
     cells = hc;
-    txs = served_length Writes c a (live r w) m ∙ ht;
+    txs = length_served Writes c a (live r w) m ∙ ht;
   }
   same_record a r None = record {
     cell = refl;
@@ -205,7 +197,7 @@ module _ (m : Meaning) (hc : length m.cells ≡ 137) (ht : length m.txs ≡ 8) (
     cell = landed_is w m.cells hc h;
     tx = set_is none m.txs c none card;
     answer = refl;
-    cells = landed_length w m.cells ∙ hc;
+    cells = length_landed m.cells w ∙ hc;
     txs = length-set m.txs c none ∙ ht;
   }
   same_commit doomed h = record {

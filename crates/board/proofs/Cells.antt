@@ -1,6 +1,7 @@
 -- Cells and cards as functions: the proofs speak of the standing values f, the transactions t and the stages S.
-use Rattle.std.proofs.Common.{◌≡◌, ℕ, Bool, true, false, cond, eqb, ◌⊎◌, sym, refl, subst, inl, inr, arith}
+use Rattle.std.proofs.Common.{◌≡◌, ℕ, cond, eqb, ◌⊎◌, sym, refl, subst, inl, inr}
 use Rattle.std.proofs.lemmas.Bool.{cases_eq, eq-eqb, ne_eqb}
+pub use Rattle.memory.proofs.Isolation.{clash}
 use Rattle.stages.specs.declared.layout.Field.TheVariants.{Next, Prev, State, Spin}
 use Rattle.stages.specs.Layout.{node_cell}
 
@@ -44,7 +45,3 @@ pub at_all2 : {A B : Type 0} (P : ℕ → A → B → Type 0) (f : ℕ → A) (g
 at_all2 {A} {B} P f g c u s here there d =
     at_all (λ (d : ℕ) (x : A). P d x (at g c s d)) f c u
     (rw (at_same g c s) here) (λ d p. rw (at_other g c s d p) (there d p)) d
-
--- a test that is both true and false
-pub clash : {A : Type 0} (b : Bool) → b ≡ true → b ≡ false → A
-clash b p q = absurd (grind arith)

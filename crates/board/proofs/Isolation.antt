@@ -1,7 +1,7 @@
 -- The memory's isolation: what an open transaction holds agrees with its card's stage, and what it read still stands,
 -- whatever the other cards call.
-use Rattle.std.proofs.Common.{◌≡◌, ℕ, Bool, true, false, cond, eqb, ◌⊎◌, List, [], ◌∷◌, ◌++◌, Some, Ok, Err, Result}
-use Rattle.std.proofs.Common.{sym, refl, ap, ◌∙◌, subst, inl, inr, arith}
+use Rattle.std.proofs.Common.{◌≡◌, ℕ, Bool, true, false, cond, ◌⊎◌, List, [], ◌∷◌, ◌++◌, Some, Ok, Err, Result}
+use Rattle.std.proofs.Common.{sym, refl, ap, ◌∙◌, subst, inl, inr, ⊎_elim, arith}
 use mathlib.Core.Path.{fun_ext}
 use Rattle.std.proofs.lemmas.Bool.Decides.{nat_tests}
 use Rattle.std.proofs.lemmas.Bool.{cases_eq, eq-eqb, ne_eqb}
@@ -13,6 +13,7 @@ use Rattle.memory.specs.declared.fault.Refusal.TheVariants.{Doomed}
 use Rattle.memory.specs.declared.call.MemoryCall.{MemoryCall}
 use Rattle.memory.specs.declared.call.MemoryCall.TheVariants as call
 use Rattle.memory.specs.Meaning.{Tx, none, live, doomed, has, wrote, marked, conflicts, struck}
+use Rattle.memory.proofs.Isolation.{has_more}
 use Rattle.stages.specs.declared.stage.Stage.{Stage}
 use Rattle.stages.specs.Rows.{call_of, begin_of}
 use Rattle.lock.specs.Lock.{goes, advanced}
@@ -40,28 +41,13 @@ valid_push f (x ∷ l) a v e h = (h.0, valid_push f l a v e h.1)
 -- a cell among one record more is among the others or its own
 has_push_true : {X : Type 0} (g : X → ℕ) (xs : List X) (x : X) (b : ℕ) → has g (xs ++ x ∷ []) b ≡ true
     → (has g xs b ≡ true) ⊎ (g x ≡ b)
-has_push_true {X} g [] x b h = go (cases_eq (g x) b)
-  where
-    go : (g x ≡ b) ⊎ (g x ≡ b → ⊥) → (has g [] b ≡ true) ⊎ (g x ≡ b)
-    go (inl e) = inr e
-    go (inr n) = clash (cond (eqb (g x) b) true false) h (rw (ne_eqb (g x) b n))
-has_push_true {X} g (y ∷ xs) x b h = go (cases_eq (g y) b) (has_push_true g xs x b)
-  where
-    go : (g y ≡ b) ⊎ (g y ≡ b → ⊥) → (has g (xs ++ x ∷ []) b ≡ true → (has g xs b ≡ true) ⊎ (g x ≡ b))
-        → (has g (y ∷ xs) b ≡ true) ⊎ (g x ≡ b)
-    go (inl e) ih = inl (rw (eq-eqb (g y) b e))
-    go (inr n) ih = rw (ne_eqb (g y) b n) (ih (rw (ne_eqb (g y) b n) at h))
+has_push_true g xs x b h =
+    ⊎_elim (λ e. inr e) (λ n. inl (sym (has_more g xs x b (λ q. n (sym q))) ∙ h)) (cases_eq (g x) b)
 
 -- a cell that is neither is not among them
 has_push_false : {X : Type 0} (g : X → ℕ) (xs : List X) (x : X) (b : ℕ) → has g xs b ≡ false → (g x ≡ b → ⊥)
     → has g (xs ++ x ∷ []) b ≡ false
-has_push_false {X} g [] x b h n = rw (ne_eqb (g x) b n)
-has_push_false {X} g (y ∷ xs) x b h n = go (cases_eq (g y) b) (has_push_false g xs x b)
-  where
-    go : (g y ≡ b) ⊎ (g y ≡ b → ⊥) → (has g xs b ≡ false → (g x ≡ b → ⊥) → has g (xs ++ x ∷ []) b ≡ false)
-        → has g (y ∷ (xs ++ x ∷ [])) b ≡ false
-    go (inl e) ih = clash (has g (y ∷ xs) b) (rw (eq-eqb (g y) b e)) h
-    go (inr m) ih = rw (ne_eqb (g y) b m) (ih (rw (ne_eqb (g y) b m) at h) n)
+has_push_false g xs x b h n = has_more g xs x b (λ q. n (sym q)) ∙ h
 
 -- Transactions.
 

@@ -7,6 +7,7 @@ use Rattle.memory.specs.declared.fault.MemoryFault.{MemoryFault}
 use Rattle.memory.specs.declared.fault.Refusal.{Refusal}
 use Rattle.memory.specs.declared.fault.Refusal.TheVariants.{OutOfRange, Already, NoTransaction, Doomed, Full}
 use Rattle.memory.specs.Calls.{performed}
+use Rattle.memory.proofs.Isolation.{all_same}
 use Rattle.stages.specs.declared.answer.Answer.{Answer}
 use Rattle.stages.specs.declared.answer.Answer.TheVariants.{Step, In, Out}
 use Rattle.stages.specs.declared.stage.Mode.{Mode}
@@ -19,6 +20,7 @@ use Rattle.stages.specs.declared.stage.ReaderEntry.TheVariants.{R13, R14}
 use Rattle.stages.specs.declared.stage.Addition.TheVariants.{A1, A2}
 use Rattle.stages.specs.declared.stage.WriterExit.TheVariants.{X1, X2, X3, X4, X5}
 use Rattle.stages.specs.declared.stage.ReaderExit.TheVariants.{Y1, Y2, Y3, Y4, Y5, Y6, Y7, Y8}
+use Rattle.stages.specs.declared.stage.Card.{Card}
 use Rattle.stages.specs.declared.stage.Stage.{Stage}
 use Rattle.stages.specs.declared.stage.Stage.TheVariants.{Idle, WriterEnters, ReaderEnters, Inside, Adds}
 use Rattle.stages.specs.declared.stage.Stage.TheVariants.{WriterLeaves, ReaderLeaves}
@@ -418,9 +420,7 @@ law_kept b d more done asked summed L p q r s h = record {
 
 -- every card of a new board is idle
 idle_stage : (n c : ℕ) → (get_or (replicate n idle_card) c idle_card).stage ≡ Idle
-idle_stage zero c = refl
-idle_stage (suc n) zero = refl
-idle_stage (suc n) (suc c) = idle_stage n c
+idle_stage n c = ap (λ (r : Card). r.stage) (all_same n c idle_card)
 
 -- a new book is lawful
 pub new_lawful : Lawful new_book

@@ -61,10 +61,6 @@ waiting (Adds n p) = false
 waiting (WriterLeaves n p) = false
 waiting (ReaderLeaves n p) = false
 
--- what cannot be
-pub wrong : {A : Type 0} → true ≡ false → A
-wrong e = absurd (grind arith)
-
 -- what a row answers that was accepted and answered v, for a card c that goes from stage g to stage h
 pub record RowSays (c : ℕ) (g h : Stage) (v : ℕ) (a : Answer) : Type 0 where
   pub goes : Goes a (phase_of g) (phase_of h)
@@ -91,28 +87,28 @@ tells_plainly c g h v a no_add no-wait no-loss p s w = record {
 -- a row that answers step
 steps : (c : ℕ) (g h : Stage) (v : ℕ) → phase_of h ≡ phase_of g → UnderWay (phase_of g)
     → ((l : List Sum) → summed c (deed g) l ≡ l) → (waiting g ≡ true → v ≡ 0) → RowSays c g h v Step
-steps c g h v p u = tells_plainly c g h v Step (λ x e. wrong cc) (λ e. wrong cc) (λ e. wrong cc) (p, u)
+steps c g h v p u = tells_plainly c g h v Step (λ x e. cc) (λ e. cc) (λ e. cc) (p, u)
 
 -- a row that lets its card in
 enters : (c : ℕ) (g h : Stage) (v : ℕ) → phase_of g ≡ entering → phase_of h ≡ inside
     → ((l : List Sum) → summed c (deed g) l ≡ l) → (waiting g ≡ true → v ≡ 0) → RowSays c g h v In
-enters c g h v p q = tells_plainly c g h v In (λ x e. wrong cc) (λ e. wrong cc) (λ e. wrong cc) (p, q)
+enters c g h v p q = tells_plainly c g h v In (λ x e. cc) (λ e. cc) (λ e. cc) (p, q)
 
 -- a row that makes its card idle
 leaves : (c : ℕ) (g h : Stage) (v : ℕ) → phase_of g ≡ leaving → phase_of h ≡ idle
     → ((l : List Sum) → summed c (deed g) l ≡ l) → (waiting g ≡ true → v ≡ 0) → RowSays c g h v Out
-leaves c g h v p q = tells_plainly c g h v Out (λ x e. wrong cc) (λ e. wrong cc) (λ e. wrong cc) (p, q)
+leaves c g h v p q = tells_plainly c g h v Out (λ x e. cc) (λ e. cc) (λ e. cc) (p, q)
 
 -- a row that keeps its card waiting
 keeps : (c : ℕ) (g h : Stage) (v : ℕ) → phase_of g ≡ entering → phase_of h ≡ entering
     → ((l : List Sum) → summed c (deed g) l ≡ l) → waiting g ≡ true → (v ≡ 0 → ⊥) → RowSays c g h v Wait
 keeps c g h v p q s w o = record {
   goes = (p, q);
-  added = λ x e. wrong cc;
+  added = λ x e. cc;
   no_add = λ _. s;
   waits = λ _. (w, o);
   let_go = λ n. absurd (n refl);
-  not_lost = λ e. wrong cc;
+  not_lost = λ e. cc;
 }
 
 -- what an answer says; a refusal says nothing here
@@ -161,9 +157,9 @@ row_says c (Adds n (A2 k a u)) v = record {
   goes = (refl, refl);
   added = λ x e. (n, k, a, u, refl, cc);
   no_add = λ h. absurd (h (capped u a) refl);
-  waits = λ e. wrong cc;
+  waits = λ e. cc;
   let_go = λ _ e. cc;
-  not_lost = λ e. wrong cc;
+  not_lost = λ e. cc;
 }
 row_says c (WriterLeaves n X1) v = steps c _ _ v refl tt (λ _. refl) (λ e. cc)
 row_says c (WriterLeaves n X2) v = steps c _ _ v refl tt (λ _. refl) (λ e. cc)
@@ -195,17 +191,17 @@ row_answers N c g k v e = go g (row_says c g v) e
   where
     go : (g : Stage) → OfAnswer (RowSays c g (goes g v).0 v) (goes g v).1 → call_of N c g ≡ Some k
         → (a : Answer) × ((goes g v).1 ≡ Ok a) × RowSays c g (goes g v).0 v a
-    go Idle r e = wrong cc
+    go Idle r e = cc
     go (WriterEnters n p) r e = (_, refl, r)
     go (ReaderEnters n p) r e = (_, refl, r)
-    go (Inside n m) r e = wrong cc
+    go (Inside n m) r e = cc
     go (Adds n p) r e = (_, refl, r)
     go (WriterLeaves n p) r e = (_, refl, r)
     go (ReaderLeaves n p) r e = (_, refl, r)
 
 -- a card with a row is not idle
 pub row_under_way : (N c : ℕ) (g : Stage) (k : MemoryCall) → call_of N c g ≡ Some k → UnderWay (phase_of g)
-row_under_way N c Idle k e = wrong cc
+row_under_way N c Idle k e = cc
 row_under_way N c (WriterEnters n p) k e = tt
 row_under_way N c (ReaderEnters n p) k e = tt
 row_under_way N c (Inside n m) k e = tt
@@ -228,42 +224,42 @@ pub doomed_refused : (c : ℕ) (g : Stage) (k : MemoryCall) (f : ℕ → ℕ) (t
     → (seen_on k f t doomed).answer ≡ Ok v → ⊥
 doomed_refused c g memory-call.Clear f t v r e = r
 doomed_refused c g (memory-call.Look a) f t v r e = r
-doomed_refused c g (memory-call.Load d a) f t v r e = wrong cc
-doomed_refused c g (memory-call.Store d a x) f t v r e = wrong cc
-doomed_refused c g (memory-call.Begin d) f t v r e = wrong cc
-doomed_refused c g (memory-call.Read d a) f t v r e = wrong cc
-doomed_refused c g (memory-call.Write d a x) f t v r e = wrong cc
-doomed_refused c g (memory-call.Commit d) f t v r e = wrong cc
+doomed_refused c g (memory-call.Load d a) f t v r e = cc
+doomed_refused c g (memory-call.Store d a x) f t v r e = cc
+doomed_refused c g (memory-call.Begin d) f t v r e = cc
+doomed_refused c g (memory-call.Read d a) f t v r e = cc
+doomed_refused c g (memory-call.Write d a x) f t v r e = cc
+doomed_refused c g (memory-call.Commit d) f t v r e = cc
 doomed_refused c g (memory-call.Drop d) f t v r e = r
 
 -- a card that waits waits on a node
 pub waits_on : (g : Stage) → waiting g ≡ true
     → (n : ℕ) × ((g ≡ WriterEnters n W6) ⊎ (g ≡ ReaderEnters n R8))
-waits_on Idle e = wrong cc
-waits_on (WriterEnters n W1) e = wrong cc
-waits_on (WriterEnters n W2) e = wrong cc
-waits_on (WriterEnters n (W3 p)) e = wrong cc
-waits_on (WriterEnters n (W4 p)) e = wrong cc
-waits_on (WriterEnters n (W5 p)) e = wrong cc
+waits_on Idle e = cc
+waits_on (WriterEnters n W1) e = cc
+waits_on (WriterEnters n W2) e = cc
+waits_on (WriterEnters n (W3 p)) e = cc
+waits_on (WriterEnters n (W4 p)) e = cc
+waits_on (WriterEnters n (W5 p)) e = cc
 waits_on (WriterEnters n W6) e = (n, inl refl)
-waits_on (ReaderEnters n R1) e = wrong cc
-waits_on (ReaderEnters n R2) e = wrong cc
-waits_on (ReaderEnters n (R3 p)) e = wrong cc
-waits_on (ReaderEnters n (R4 p)) e = wrong cc
-waits_on (ReaderEnters n (R5 p)) e = wrong cc
-waits_on (ReaderEnters n (R6 p)) e = wrong cc
-waits_on (ReaderEnters n (R7 p s)) e = wrong cc
+waits_on (ReaderEnters n R1) e = cc
+waits_on (ReaderEnters n R2) e = cc
+waits_on (ReaderEnters n (R3 p)) e = cc
+waits_on (ReaderEnters n (R4 p)) e = cc
+waits_on (ReaderEnters n (R5 p)) e = cc
+waits_on (ReaderEnters n (R6 p)) e = cc
+waits_on (ReaderEnters n (R7 p s)) e = cc
 waits_on (ReaderEnters n R8) e = (n, inr refl)
-waits_on (ReaderEnters n R9) e = wrong cc
-waits_on (ReaderEnters n R10) e = wrong cc
-waits_on (ReaderEnters n R11) e = wrong cc
-waits_on (ReaderEnters n (R12 t)) e = wrong cc
-waits_on (ReaderEnters n (R13 t)) e = wrong cc
-waits_on (ReaderEnters n (R14 t)) e = wrong cc
-waits_on (Inside n m) e = wrong cc
-waits_on (Adds n p) e = wrong cc
-waits_on (WriterLeaves n p) e = wrong cc
-waits_on (ReaderLeaves n p) e = wrong cc
+waits_on (ReaderEnters n R9) e = cc
+waits_on (ReaderEnters n R10) e = cc
+waits_on (ReaderEnters n R11) e = cc
+waits_on (ReaderEnters n (R12 t)) e = cc
+waits_on (ReaderEnters n (R13 t)) e = cc
+waits_on (ReaderEnters n (R14 t)) e = cc
+waits_on (Inside n m) e = cc
+waits_on (Adds n p) e = cc
+waits_on (WriterLeaves n p) e = cc
+waits_on (ReaderLeaves n p) e = cc
 
 -- a card that waits is answered its spin
 pub spin_answered : (N c n : ℕ) (g : Stage) (k : MemoryCall) (f : ℕ → ℕ) (t : ℕ → Tx)
@@ -308,37 +304,37 @@ pub lost_by : (c : ℕ) (g : Stage) (k : MemoryCall) (f : ℕ → ℕ) (t : ℕ 
     → e.refusal ≡ Doomed → (seen_on k f t x).answer ≡ Err e → LostOf c f x (seen_on k f t x)
 lost_by c g memory-call.Clear f t x e r h q = absurd r
 lost_by c g (memory-call.Look a) f t x e r h q = absurd r
-lost_by c g (memory-call.Load d a) f t none e r h q = wrong cc
-lost_by c g (memory-call.Load d a) f t (live i w) e r h q = not_so Already _ e refl (λ z. wrong cc) q h
-lost_by c g (memory-call.Load d a) f t doomed e r h q = not_so Already _ e refl (λ z. wrong cc) q h
-lost_by c g (memory-call.Store d a v) f t none e r h q = wrong cc
-lost_by c g (memory-call.Store d a v) f t (live i w) e r h q = not_so Already _ e refl (λ z. wrong cc) q h
-lost_by c g (memory-call.Store d a v) f t doomed e r h q = not_so Already _ e refl (λ z. wrong cc) q h
-lost_by c g (memory-call.Begin d) f t none e r h q = wrong cc
-lost_by c g (memory-call.Begin d) f t (live i w) e r h q = not_so Already _ e refl (λ z. wrong cc) q h
-lost_by c g (memory-call.Begin d) f t doomed e r h q = not_so Already _ e refl (λ z. wrong cc) q h
-lost_by c g (memory-call.Read d a) f t none e r h q = not_so NoTransaction _ e refl (λ z. wrong cc) q h
+lost_by c g (memory-call.Load d a) f t none e r h q = cc
+lost_by c g (memory-call.Load d a) f t (live i w) e r h q = not_so Already _ e refl (λ z. cc) q h
+lost_by c g (memory-call.Load d a) f t doomed e r h q = not_so Already _ e refl (λ z. cc) q h
+lost_by c g (memory-call.Store d a v) f t none e r h q = cc
+lost_by c g (memory-call.Store d a v) f t (live i w) e r h q = not_so Already _ e refl (λ z. cc) q h
+lost_by c g (memory-call.Store d a v) f t doomed e r h q = not_so Already _ e refl (λ z. cc) q h
+lost_by c g (memory-call.Begin d) f t none e r h q = cc
+lost_by c g (memory-call.Begin d) f t (live i w) e r h q = not_so Already _ e refl (λ z. cc) q h
+lost_by c g (memory-call.Begin d) f t doomed e r h q = not_so Already _ e refl (λ z. cc) q h
+lost_by c g (memory-call.Read d a) f t none e r h q = not_so NoTransaction _ e refl (λ z. cc) q h
 lost_by c g (memory-call.Read d a) f t (live i w) e r h q = by_value (value_in w a) q
   where
     by_mark : (o : Option (List ℕ)) → (mark_seen d a f t w o).answer ≡ Err e
         → LostOf c f (live i w) (mark_seen d a f t w o)
-    by_mark (Some l) q = wrong cc
-    by_mark None q = not_so Full _ e refl (λ z. wrong cc) q h
+    by_mark (Some l) q = cc
+    by_mark None q = not_so Full _ e refl (λ z. cc) q h
 
     by_value : (o : Option ℕ) → (value_seen d a f t i w o).answer ≡ Err e
         → LostOf c f (live i w) (value_seen d a f t i w o)
-    by_value (Some v) q = wrong cc
+    by_value (Some v) q = cc
     by_value None q = by_mark (marking i a) q
 lost_by c g (memory-call.Read d a) f t doomed e r h q = gone c d f t r.0
-lost_by c g (memory-call.Write d a v) f t none e r h q = not_so NoTransaction _ e refl (λ z. wrong cc) q h
+lost_by c g (memory-call.Write d a v) f t none e r h q = not_so NoTransaction _ e refl (λ z. cc) q h
 lost_by c g (memory-call.Write d a v) f t (live i w) e r h q = by_record (recording w a v) q
   where
     by_record : (o : Option (List Write)) → (record_seen d a f t i o).answer ≡ Err e
         → LostOf c f (live i w) (record_seen d a f t i o)
-    by_record (Some l) q = wrong cc
-    by_record None q = not_so Full _ e refl (λ z. wrong cc) q h
+    by_record (Some l) q = cc
+    by_record None q = not_so Full _ e refl (λ z. cc) q h
 lost_by c g (memory-call.Write d a v) f t doomed e r h q = gone c d f t r.0
-lost_by c g (memory-call.Commit d) f t none e r h q = not_so NoTransaction _ e refl (λ z. wrong cc) q h
-lost_by c g (memory-call.Commit d) f t (live i w) e r h q = wrong cc
+lost_by c g (memory-call.Commit d) f t none e r h q = not_so NoTransaction _ e refl (λ z. cc) q h
+lost_by c g (memory-call.Commit d) f t (live i w) e r h q = cc
 lost_by c g (memory-call.Commit d) f t doomed e r h q = gone c d f t r.0
 lost_by c g (memory-call.Drop d) f t x e r h q = absurd r

@@ -1,14 +1,12 @@
 -- The sizes of a board are within the ranges: their type says so. And a board that was set up is new.
-use Rattle.std.proofs.Common.{◌≡◌, ℕ, List, Ok, Err, Result, refl, ap, ◌∙◌, arith}
+use Rattle.std.proofs.Common.{◌≡◌, ℕ, Ok, Err, Result, refl, ap, ◌∙◌}
 use Rattle.lock.specs.declared.fault.SizeFault.{SizeFault}
 use Rattle.lock.specs.Lock.{Size, sized}
 use Rattle.door.specs.declared.fault.Unfit.{Unfit}
-use Rattle.door.specs.declared.call.Call.{Call}
-use Rattle.door.specs.Door.{DoorState, new_door, ran}
+use Rattle.door.specs.Door.{DoorState, new_door}
 use Rattle.door.specs.Doors.{set_up}
 use Rattle.lock.specs.declared.sizes.Sizes.{Sizes}
 use Rattle.lock.specs.Locks.{size_of}
-use Rattle.board.specs.Boards.{played}
 use Rattle.board.proofs.Ranges.{Within}
 
 -- the sizes of the type are those of a board that can be set up
@@ -16,7 +14,7 @@ pub within_of : (z : Sizes) → Within (size_of z)
 within_of z = record { cards = z.few_cards.1; nodes = z.few_nodes.1; counters = z.few_counters.1 }
 
 -- what set-up makes of a judgement of sizes
-abbrev made_of : {X : Type 0} → X → Result Size SizeFault → Result (Size × DoorState) (Unfit X)
+abbrev pub made_of : {X : Type 0} → X → Result Size SizeFault → Result (Size × DoorState) (Unfit X)
 made_of memory (Ok z) = Ok (z, new_door)
 made_of memory (Err e) = Err (record { fault = e; memory = memory })
 
@@ -25,10 +23,10 @@ fresh_by : {X : Type 0} (memory : X) (j : Result Size SizeFault) (r : Result (Si
     (s : DoorState) → r ≡ Ok (z, s) → r ≡ made_of memory j → s ≡ new_door
 fresh_by memory (Ok y) r z s p q =
     let e : ◌≡◌ {A = Size × DoorState} (z, s) (y, new_door) = cc in ap (λ (w : Size × DoorState). w.1) e
-fresh_by memory (Err e) r z s p q = let w : ◌≡◌ {A = ℕ} 0 1 = cc in absurd (omega arith)
+fresh_by memory (Err e) r z s p q = cc
 
 -- set-up as a judgement of sizes
-made_is : {X : Type 0} (memory : X) (j : Result Size SizeFault)
+pub made_is : {X : Type 0} (memory : X) (j : Result Size SizeFault)
     → ◌≡◌ {A = Result (Size × DoorState) (Unfit X)}
     (elim j [ Ok z ↦ Ok (z, new_door) | Err e ↦ Err (record { fault = e; memory = memory }) ]) (made_of memory j)
 made_is memory (Ok z) = refl
@@ -38,23 +36,3 @@ made_is memory (Err e) = refl
 pub fresh : {X : Type 0} (memory : X) (c n k : ℕ) (r : Result (Size × DoorState) (Unfit X)) (z : Size) (s : DoorState)
     → r ≡ Ok (z, s) → r ≡ set_up memory c n k → s ≡ new_door
 fresh memory c n k r z s p q = fresh_by memory (sized c n k) r z s p (q ∙ made_is memory (sized c n k))
-
--- calls on a board that was set up give what they have to
-played_by : {X : Type 0} (memory : X) (j : Result Size SizeFault) (r : Result (Size × DoorState) (Unfit X))
-    (cs : List Call) (y z : Size) (s t : DoorState) → r ≡ Ok (y, s) → r ≡ made_of memory j → z ≡ y → t ≡ ran y s cs
-    → ◌≡◌ {A = Result (Size × DoorState) (Unfit X)} (Ok (z, t))
-    (elim j [ Ok z ↦ Ok (z, ran z new_door cs) | Err e ↦ Err (record { fault = e; memory = memory }) ])
-played_by memory (Ok x) r cs y z s t p q e f =
-    let w : ◌≡◌ {A = Size × DoorState} (y, s) (x, new_door) = cc in
-    let zx : z ≡ x = e ∙ ap (λ (v : Size × DoorState). v.0) w in
-    let tx : t ≡ ran x new_door cs = f ∙ ap (λ (v : Size × DoorState). ran v.0 v.1 cs) w in
-    λ i. Ok (zx i, tx i)
-played_by memory (Err e) r cs y z s t p q _ _ = let w : ◌≡◌ {A = ℕ} 0 1 = cc in absurd (omega arith)
-
--- by what calls on a new board have to give
-pub plays : {X : Type 0} (memory : X) (c n k : ℕ) (r : Result (Size × DoorState) (Unfit X)) (cs : List Call)
-    (y z : Size)
-    (s t : DoorState) → r ≡ Ok (y, s) → r ≡ set_up memory c n k → z ≡ y → t ≡ ran y s cs
-    → ◌≡◌ {A = Result (Size × DoorState) (Unfit X)} (Ok (z, t)) (played memory c n k cs)
-plays memory c n k r cs y z s t p q e f =
-    played_by memory (sized c n k) r cs y z s t p (q ∙ made_is memory (sized c n k)) e f

@@ -36,11 +36,8 @@ use Rattle.board.proofs.Isolation.{Fair, step_fair, outside}
 use Rattle.board.proofs.Turns.{moved_same, step_replies}
 use Rattle.board.proofs.Wakes.{row_seen}
 use Rattle.board.proofs.Said.{RowSays, waiting, row_answers, row_under_way, begin_phase, doomed_refused, waits_on}
-use Rattle.board.proofs.Said.{spin_answered, sum_stored, lost_by, wrong}
-
--- two answers that are one have one number
-ok_same : (r : Result ℕ MemoryFault) (x y : ℕ) → r ≡ Ok x → r ≡ Ok y → x ≡ y
-ok_same r x y p q = cc
+use Rattle.board.proofs.Said.{spin_answered, sum_stored, lost_by}
+use Rattle.board.proofs.Sounds.{one_value}
 
 -- a step of card c, whose stage's row makes the call k
 module _ (z : Size) (W : Within z) (b : Book) (I : Inv z b) (c : ℕ) (k : MemoryCall) (lt : c < z.cards)
@@ -132,7 +129,7 @@ module _ (z : Size) (W : Within z) (b : Book) (I : Inv z b) (c : ℕ) (k : Memor
       }
         where
           same_number : (x : ℕ) → (performed s.meaning k).answer ≡ Ok x → x ≡ v
-          same_number x p = ok_same (performed s.meaning k).answer x v p q
+          same_number x p = one_value (performed s.meaning k).answer x v p q
 
           kept_waiting : waiting (stage b c) ≡ true → (v ≡ 0 → ⊥)
               → (i : ℕ) × (o : Mode) × Waits b c i o × (F (spin i) ≡ 0 → ⊥)
@@ -154,10 +151,10 @@ module _ (z : Size) (W : Within z) (b : Book) (I : Inv z b) (c : ℕ) (k : Memor
                 ∙ begin_phase (stage b c),
             row_under_way z.nodes c (stage b c) k e,
           );
-          added = λ x r. wrong cc;
+          added = λ x r. cc;
           no_add = λ _. A.finished;
-          waits = λ r. wrong cc;
-          let_go = λ _ i o w. let B = (book_spin i o w).1 in wrong cc;
+          waits = λ r. cc;
+          let_go = λ _ i o w. let B = (book_spin i o w).1 in cc;
           lost = λ _. record {
             was_doomed = L.0;
             closed = ap (λ (t : ℕ → Tx). t c) (txs_after (Err f) D A) ∙ L.2;

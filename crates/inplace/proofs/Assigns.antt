@@ -10,6 +10,7 @@ use Rattle.memory.specs.declared.write.Write.{Write}
 use Rattle.memory.specs.declared.access.Access.{Access}
 use Rattle.memory.specs.Meaning.{Tx, Meaning, none, live, landed, wrote, replaced, struck, served, with_tx}
 use Rattle.memory.proofs.Isolation.{clash}
+use Rattle.memory.proofs.Lasting.{landed_other}
 use Rattle.memory.specs.declared.log.Log.{Log}
 use Rattle.memory.specs.declared.log.Transaction.{Transaction}
 use Rattle.memory.specs.declared.log.Transaction.TheVariants.{Closed, Open}
@@ -18,7 +19,7 @@ use Rattle.memory.specs.Logs.{marks_of}
 use Rattle.inplace.specs.Undo.{undo_log, distinct, written, undo_of, undoes, tx_in}
 use Rattle.inplace.specs.Standing.{meaning_of}
 use Rattle.inplace.proofs.Undoes.{lacks_left, lacks_right, lacks_append, distinct_head, distinct_left}
-use Rattle.inplace.proofs.Undoes.{distinct_right, distinct_insert, landed_without, landed_other, other_sym}
+use Rattle.inplace.proofs.Undoes.{distinct_right, distinct_insert, landed_without, other_sym}
 use Rattle.inplace.proofs.Undoes.{written_other}
 use Rattle.inplace.proofs.Restores.{undoes_append, txs_other, lack_map, lack_set, lack_undoes, Lack}
 

@@ -1,6 +1,6 @@
 -- Writes that are landed, where no two are of one cell.
 use Rattle.std.proofs.Common.{◌≡◌, ℕ, ◌<◌, Bool, true, false, cond, eqb, ◌≢◌, List, [], ◌∷◌, ◌++◌, map, length, get_or}
-use Rattle.std.proofs.Common.{set, Some, None, sym, refl, ap, ◌∙◌, subst, arith, length-set, get_or-set_other}
+use Rattle.std.proofs.Common.{set, Some, None, sym, refl, ap, ◌∙◌, subst, length-set}
 use Rattle.std.proofs.Common.{get_or-set_same, ne_eqb, eqb-true}
 use lib.Seq.{set_comm}
 use borrow.Author.Tests.{eqb-false}
@@ -8,6 +8,7 @@ use Rattle.std.proofs.lemmas.Bool.{cond-false}
 use Rattle.memory.specs.declared.write.Write.{Write}
 use Rattle.memory.specs.Meaning.{wrote, landed, value_in}
 use Rattle.memory.proofs.Isolation.{clash}
+use Rattle.memory.proofs.Lasting.{landed_other}
 use Rattle.inplace.specs.Undo.{distinct, written}
 
 -- Cells that writes lack.
@@ -165,16 +166,7 @@ landed_without cs (a ∷ ls) us rs e =
     landed_without (set cs a.cell a.value) ls us rs h.1
     ∙ ap (λ l. landed l (ls ++ rs)) (landed_set cs us a.cell a.value k)
 
--- a cell that the writes lack keeps its value
-pub landed_other : (cs : List ℕ) (us : List Write) (c : ℕ) → wrote us c ≡ false
-    → get_or (landed cs us) c 0 ≡ get_or cs c 0
-landed_other cs [] c e = refl
-landed_other cs (u ∷ us) c e =
-    let h = lacks_head u us c e in
-    let n : c ≢ u.cell = λ q. h.0 (sym q) in
-    landed_other (set cs u.cell u.value) us c h.1 ∙ get_or-set_other cs u.cell c u.value 0 n
-
--- so what other writes have put there is still there
+-- what other writes have put into cells is still there
 pub written_other : (cs : List ℕ) (us vs : List Write) → Other vs us
     → map (written (landed cs us)) vs ≡ map (written cs) vs
 written_other cs us [] a = refl
@@ -190,11 +182,11 @@ value_lacks [] c e = refl
 value_lacks (u ∷ us) c e =
     (elim (eqb u.cell c) as
     (λ b. cond b (Some u.value) (value_in us c) ≡ None → cond b true (wrote us c) ≡ false)
-    [ true ↦ λ r. let z : ◌≡◌ {A = ℕ} 0 1 = cc in absurd (omega arith) | false ↦ λ r. value_lacks us c r ]) e
+    [ true ↦ λ r. cc | false ↦ λ r. value_lacks us c r ]) e
 
 -- a value in the first part is the value
 pub value_append : (us vs : List Write) (c v : ℕ) → value_in us c ≡ Some v → value_in (us ++ vs) c ≡ Some v
-value_append [] vs c v e = let z : ◌≡◌ {A = ℕ} 0 1 = cc in absurd (omega arith)
+value_append [] vs c v e = cc
 value_append (u ∷ us) vs c v e =
     (elim (eqb u.cell c) as
     (λ b. cond b (Some u.value) (value_in us c) ≡ Some v
@@ -212,7 +204,7 @@ value_skip (u ∷ us) vs c e =
 -- of distinct writes, the one of a cell gives its value
 pub landed_at : (cs : List ℕ) (us : List Write) (c v : ℕ) → distinct us ≡ true → c < length cs
     → value_in us c ≡ Some v → get_or (landed cs us) c 0 ≡ v
-landed_at cs [] c v d h e = let z : ◌≡◌ {A = ℕ} 0 1 = cc in absurd (omega arith)
+landed_at cs [] c v d h e = cc
 landed_at cs (u ∷ us) c v d h e =
     go (eqb u.cell c) refl e
     (landed_at (set cs u.cell u.value) us c v (distinct_head u us d).1 (rw length-set h)) where

@@ -1,7 +1,7 @@
 -- Two open transactions never overlap: kept by every call, by what a call can do to a meaning.
 use Rattle.std.proofs.Common.{◌≡◌, ℕ, zero, suc, ◌≤◌, Bool, true, false, cond, ◌||◌, eqb, ltb, ◌≢◌, ◌⊎◌, List, []}
 use Rattle.std.proofs.Common.{◌∷◌, ◌++◌, map, length, get_or, set, replicate, Some, None, sym, refl, ap, ◌∙◌, subst}
-use Rattle.std.proofs.Common.{inl, inr, ⊎_elim, arith}
+use Rattle.std.proofs.Common.{inl, inr, ⊎_elim}
 use Rattle.std.proofs.lemmas.List.{get_or-set_other, get_or-set_same, get_or-map, get_or_past, length-map, set_past}
 use Rattle.std.proofs.lemmas.Bool.{cases_eq, cases_lt, cond-false, eqb-true, ne_eqb, or_parts}
 use Rattle.memory.specs.declared.write.Write.{Write}
@@ -20,7 +20,7 @@ ApartBy t = (c d cell : ℕ) → c ≢ d → has_written (t c) cell ≡ true →
 
 -- nothing is both
 pub clash : {X : Type 0} (b : Bool) → b ≡ true → b ≡ false → X
-clash b p q = let z : ◌≡◌ {A = ℕ} 0 1 = cc in absurd (omega arith)
+clash b p q = cc
 
 -- Another card's transaction after an access.
 -- it has written nothing new
@@ -206,7 +206,7 @@ marked_marking ms ns cell x e n = go (marked ms cell) (ltb (length ms) 4) e wher
   go false true q =
       let z : ms ++ cell ∷ [] ≡ ns = cc in
       ap (λ ks. marked ks x) (sym z) ∙ has_more (λ k. k) ms cell x n
-  go false false q = let z : ◌≡◌ {A = ℕ} 0 1 = cc in absurd (omega arith)
+  go false false q = cc
 
 -- a write more
 pub wrote_recording : (ws vs : List Write) (cell value x : ℕ) → recording ws cell value ≡ Some vs → x ≢ cell
@@ -222,7 +222,7 @@ wrote_recording ws vs cell value x e n = go (wrote ws cell) (ltb (length ws) 4) 
   go false true q =
       let z : ws ++ record { cell = cell; value = value } ∷ [] ≡ vs = cc in
       ap (λ ks. wrote ks x) (sym z) ∙ has_more (λ w. w.cell) ws (record { cell = cell; value = value }) x n
-  go false false q = let z : ◌≡◌ {A = ℕ} 0 1 = cc in absurd (omega arith)
+  go false false q = cc
 
 -- The three ways in which an open transaction grows.
 -- a read of an own write
@@ -248,18 +248,18 @@ grown_write : (cell value : ℕ) (ms : List ℕ) (ws vs : List Write) → record
 grown_write cell value ms ws vs e = record {
   written = λ x n w. sym (wrote_recording ws vs cell value x e n) ∙ w;
   touched = λ x n q. ap (λ b. b || marked ms x) (wrote_recording ws vs cell value x e n) ∙ q;
-  looked = λ q w. let z : ◌≡◌ {A = ℕ} 0 1 = cc in absurd (omega arith);
+  looked = λ q w. cc;
 }
 
--- a cleared memory has no transaction
-pub clear_none : (n d : ℕ) → get_or (replicate n none) d none ≡ none
-clear_none zero d = refl
-clear_none (suc n) zero = refl
-clear_none (suc n) (suc d) = clear_none n d
+-- a list of the same everywhere, and past its end as well
+pub all_same : {X : Type 0} (n i : ℕ) (x : X) → get_or (replicate n x) i x ≡ x
+all_same zero i x = refl
+all_same (suc n) zero x = refl
+all_same (suc n) (suc i) x = all_same n i x
 
--- so no two overlap
+-- no two transactions of a cleared memory overlap
 apart_clear : (d cell : ℕ) → has_touched (tx_of cleared d) cell ≡ false
-apart_clear d cell = ap (λ t. has_touched t cell) (clear_none 8 d)
+apart_clear d cell = ap (λ t. has_touched t cell) (all_same 8 d none)
 
 -- every call keeps transactions apart
 pub apart_kept : Kept Apart

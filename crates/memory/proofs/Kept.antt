@@ -1,6 +1,5 @@
 -- A property of meanings that every call keeps, by what a call can do to a meaning.
 use Rattle.std.proofs.Common.{◌≡◌, ℕ, ◌<◌, Bool, true, false, cond, ltb, List, [], ◌∷◌, set, Some, None, Option, refl}
-use Rattle.std.proofs.Common.{arith}
 use Rattle.std.proofs.lemmas.Bool.{ltb-true}
 use Rattle.memory.specs.declared.write.Write.{Write}
 use Rattle.memory.specs.declared.access.Access.{Access}
@@ -46,7 +45,7 @@ pub range_bounds : (card cell : ℕ) → in_range card cell ≡ true → (card <
 range_bounds card cell e = go (ltb card 8) refl e where
   go : (b : Bool) → ltb card 8 ≡ b → cond b (ltb cell 137) false ≡ true → (card < 8) × (cell < 137)
   go true q r = (ltb-true card 8 q, ltb-true cell 137 r)
-  go false q r = let z : ◌≡◌ {A = ℕ} 0 1 = cc in absurd (omega arith)
+  go false q r = cc
 
 module _ (P : Meaning → Type 0) (K : Kept P) (m : Meaning) (p : P m) where
   -- a call that is refused for its range changes nothing

@@ -3,7 +3,7 @@
 use Rattle.std.proofs.Common.{◌≡◌, ℕ, Bool, true, false, cond, ◌||◌, eqb, ltb, ◌≢◌, List, [], ◌∷◌, ◌++◌, map, length}
 use Rattle.std.proofs.Common.{get_or, set, Some, None, Ok, Option, sym, refl, ap, ◌∙◌, subst, ⊎_elim}
 use Rattle.std.proofs.lemmas.List.{get_or-set_other}
-use Rattle.std.proofs.lemmas.Bool.{cases_eq, eq-eqb, eqb-false}
+use Rattle.std.proofs.lemmas.Bool.{cases_eq, eq-eqb, eqb-false, true≢false}
 use Rattle.memory.specs.declared.fault.Refusal.TheVariants.{OutOfRange}
 use Rattle.memory.specs.declared.write.Write.{Write}
 use Rattle.memory.specs.declared.access.Access.{Access}
@@ -21,10 +21,6 @@ use Rattle.memory.specs.Lasting.{Within, AllWithin, ReadsLast}
 use Rattle.memory.proofs.Isolation.{clash, served_other, set_at, marked_marking, apart_kept}
 use Rattle.memory.proofs.Kept.{kept_call}
 use Rattle.memory.proofs.Soundness.{always_sound}
-
--- what cannot be
-wrong : {X : Type 0} → true ≡ false → X
-wrong e = clash true refl e
 
 -- a mark that is new is there
 marked_new : (ms : List ℕ) (x : ℕ) → marked (ms ++ x ∷ []) x ≡ true
@@ -52,7 +48,8 @@ marked_kept ms ns cell x e h = ⊎_elim
     (λ (n : x ≡ cell → ⊥). marked_marking ms ns cell x e n ∙ h) (cases_eq x cell)
 
 -- values that become standing leave every other cell
-landed_other : (cs : List ℕ) (ws : List Write) (x : ℕ) → wrote ws x ≡ false → get_or (landed cs ws) x 0 ≡ get_or cs x 0
+pub landed_other : (cs : List ℕ) (ws : List Write) (x : ℕ) → wrote ws x ≡ false
+    → get_or (landed cs ws) x 0 ≡ get_or cs x 0
 landed_other cs [] x e = refl
 landed_other cs (w ∷ ws) x e = go (eqb w.cell x) refl (landed_other (set cs w.cell w.value) ws x) e
   where
@@ -60,17 +57,17 @@ landed_other cs (w ∷ ws) x e = go (eqb w.cell x) refl (landed_other (set cs w.
         → (wrote ws x ≡ false → get_or (landed (set cs w.cell w.value) ws) x 0
         ≡ get_or (set cs w.cell w.value) x 0)
         → cond b true (wrote ws x) ≡ false → get_or (landed (set cs w.cell w.value) ws) x 0 ≡ get_or cs x 0
-    go true q h e = wrong e
+    go true q h e = cc
     go false q h e = h e ∙ get_or-set_other cs w.cell x w.value 0 (λ p. eqb-false w.cell x q (sym p))
 
 -- a cell without a write has no value set aside
 no_value : (ws : List Write) (x v : ℕ) → wrote ws x ≡ false → value_in ws x ≡ Some v → ⊥
-no_value [] x v e q = wrong cc
+no_value [] x v e q = cc
 no_value (w ∷ ws) x v e q = go (eqb w.cell x) (no_value ws x v) e q
   where
     go : (b : Bool) → (wrote ws x ≡ false → value_in ws x ≡ Some v → ⊥) → cond b true (wrote ws x) ≡ false
         → cond b (Some w.value) (value_in ws x) ≡ Some v → ⊥
-    go true h e q = wrong e
+    go true h e q = cc
     go false h e q = h e q
 
 -- a transaction that is open after another card's access was open before, and not in its way
@@ -80,7 +77,7 @@ struck_open a cell t ms ws = go (conflicts a cell t) refl
   where
     go : (b : Bool) → conflicts a cell t ≡ b → cond b doomed t ≡ live ms ws
         → (t ≡ live ms ws) × (conflicts a cell t ≡ false)
-    go true p q = wrong cc
+    go true p q = cc
     go false p q = (q, p)
 
 -- Card c has marked cell x in its transaction, and read v there.
@@ -94,7 +91,7 @@ module _ (c x v : ℕ) where
 
   -- one that is not open
   none_holds : (s : ℕ) → TxHolds none s
-  none_holds s ms ws e = wrong cc
+  none_holds s ms ws e = cc
 
   -- an open one
   live_holds : (ms : List ℕ) (ws : List Write) (s : ℕ) → marked ms x ≡ true → s ≡ v → TxHolds (live ms ws) s
@@ -139,7 +136,7 @@ module _ (c x v : ℕ) where
       where
         struck_here : x ≡ cell → ⊥
         struck_here q = ⊎_elim
-            (λ (p : d ≡ c). wrong (none_here p))
+            (λ (p : d ≡ c). absurd (true≢false (none_here p)))
             (λ (n : d ≡ c → ⊥).
             let S = struck_open Writes cell (tx_of m c) ms ws
             (sym (served_other Writes d cell none m c (λ q. n (sym q))) ∙ e) in
@@ -278,7 +275,7 @@ module _ (c x v : ℕ) where
       by_mark ms ws (Some ns) p q = let z : standing m x ≡ v = cc in
           set_at (λ t. TxHolds t (standing m x)) (map (struck Reads x) m.txs) c (live ns ws)
           (live_holds ns ws (standing m x) (marked_own ms ns x p) z) (none_holds _)
-      by_mark ms ws None p q = wrong cc
+      by_mark ms ws None p q = cc
 
       by_value : (ms : List ℕ) (ws : List Write) (o : Option ℕ) → wrote ws x ≡ false → value_in ws x ≡ o
           → (read_open m c x ms ws o).answer ≡ Ok v → Holds (read_open m c x ms ws o).after
@@ -286,14 +283,14 @@ module _ (c x v : ℕ) where
       by_value ms ws None k p q = by_mark ms ws (marking ms x) refl q
 
       by_tx : (t : Tx) → tx_of m c ≡ t → (read_at m c x t).answer ≡ Ok v → Holds (read_at m c x t).after
-      by_tx none e q = wrong cc
-      by_tx doomed e q = wrong cc
+      by_tx none e q = cc
+      by_tx doomed e q = cc
       by_tx (live ms ws) e q = by_value ms ws (value_in ws x) (ap (λ t. has_written t x) (sym e) ∙ n) refl q
 
       by_range : (b : Bool) → (cond b (read_at m c x (tx_of m c)) (refused OutOfRange c x m)).answer ≡ Ok v
           → Holds (cond b (read_at m c x (tx_of m c)) (refused OutOfRange c x m)).after
       by_range true q = by_tx (tx_of m c) refl q
-      by_range false q = wrong cc
+      by_range false q = cc
 
 -- so it is in every run
 pub reads_last : ReadsLast

@@ -39,7 +39,7 @@ module _ {X : Type 0} (f : X → ℕ) (cell : ℕ) where
 
     -- over all records, with places counted from k
     found_from : (k : ℕ) (xs : List X) (i : ℕ) → seek f cell k xs ≡ Some i → (j : ℕ) × (i ≡ k + j) × P xs j
-    found_from k [] i e = let z : ◌≡◌ {A = ℕ} 0 1 = cc in absurd (omega arith)
+    found_from k [] i e = cc
     found_from k (x ∷ xs) i e =
         found_step k x xs i (seek f cell (k + 1) xs) (eqb (f x) cell) refl e (found_from (k + 1) xs i)
 
@@ -56,7 +56,7 @@ module _ {X : Type 0} (f : X → ℕ) (cell : ℕ) where
     -- by whether the first record is of the cell
     none_step : (k : ℕ) (x : X) (xs : List X) (s : Option ℕ) (b : Bool) → eqb (f x) cell ≡ b
         → cond b (Some k) s ≡ None → (s ≡ None → P xs) → P (x ∷ xs)
-    none_step k x xs s true q e r = let z : ◌≡◌ {A = ℕ} 0 1 = cc in absurd (omega arith)
+    none_step k x xs s true q e r = cc
     none_step k x xs s false q e r = miss x xs q (r e)
 
     -- over all records

@@ -13,7 +13,8 @@ use Rattle.memory.specs.Calls.{performed}
 use Rattle.memory.specs.declared.call.MemoryCall.{MemoryCall}
 use Rattle.memory.proofs.Kept.{Kept, kept_call, kept_calls}
 use Rattle.memory.proofs.Isolation.{apart_call, apart_kept, set_at, served_other}
-use Rattle.memory.proofs.Isolation.{has_more, wrote_replaced, clear_none, clash}
+use Rattle.memory.proofs.Writes.{place}
+use Rattle.memory.proofs.Isolation.{has_more, wrote_replaced, all_same, clash}
 
 -- Lengths.
 -- as many cells as a memory has
@@ -44,7 +45,7 @@ cells_kept = record {
 }
 
 -- an access leaves as many transactions
-length_served : (a : Access) (card cell : ℕ) (own : Tx) (m : Meaning)
+pub length_served : (a : Access) (card cell : ℕ) (own : Tx) (m : Meaning)
     → length (served a card cell own m).txs ≡ length m.txs
 length_served a card cell own m =
     length-set (map (struck a cell) m.txs) card own ∙ length-map m.txs (struck a cell)
@@ -102,11 +103,7 @@ few_marking ms ns cell F h e = go (marked ms cell) (ltb (length ms) 4) refl refl
   go false true p r q =
       let z : ms ++ cell ∷ [] ≡ ns = cc in
       subst (Few (λ k. k)) z (few_more (λ k. k) ms cell F (ltb-true (length ms) 4 r) p h)
-  go false false p r q = let z : ◌≡◌ {A = ℕ} 0 1 = cc in absurd (omega arith)
-
--- the cell of a write
-abbrev place : Write → ℕ
-place w = w.cell
+  go false false p r q = cc
 
 -- another value for a cell leaves as many writes
 length_replaced : (ws : List Write) (cell value : ℕ) → length (replaced ws cell value) ≡ length ws
@@ -147,7 +144,7 @@ few_recording ws vs cell value F h e = go (wrote ws cell) (ltb (length ws) 4) re
   go false true p r q =
       let z : ws ++ record { cell = cell; value = value } ∷ [] ≡ vs = cc in
       subst (Few place) z (few_more place ws (record { cell = cell; value = value }) F (ltb-true (length ws) 4 r) p h)
-  go false false p r q = let z : ◌≡◌ {A = ℕ} 0 1 = cc in absurd (omega arith)
+  go false false p r q = cc
 
 -- Orderly transactions.
 -- of every card
@@ -183,7 +180,7 @@ orderly_served a card cell own m o O d = ⊎_elim
 -- every call leaves all transactions orderly
 orderly_kept : Kept AllOrderly
 orderly_kept = record {
-  at_clear = λ d. subst Orderly (sym (clear_none 8 d)) tt;
+  at_clear = λ d. subst Orderly (sym (all_same 8 d none)) tt;
   at_begin = λ m card. orderly_put m card (live [] []) (few_none (λ k. k), few_none place);
   at_close = λ m card. orderly_put m card none tt;
   at_commit = λ m card ws. orderly_put m card none tt;

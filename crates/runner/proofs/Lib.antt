@@ -1,5 +1,4 @@
 pub mod Answering
 pub mod Playing
-pub mod Queue
 pub mod Once
 pub mod Promised

@@ -1,33 +1,24 @@
 -- What is printed for a text is one. Assumes nothing.
-use Rattle.std.proofs.Common.{◌≡◌, ℕ, zero, suc, ◌+◌, ◌<◌, ◌≤◌, List, [], ◌∷◌, ◌++◌, map, length, take, drop, Ok, Err}
-use Rattle.std.proofs.Common.{Result, sym, refl, ap, ◌∙◌, subst, append_assoc, arith}
+use Rattle.std.proofs.Common.{◌≡◌, ℕ, ◌+◌, ◌<◌, ◌≤◌, List, [], ◌++◌, map, length, take, drop}
+use Rattle.std.proofs.Common.{sym, refl, ap, ◌∙◌, subst, append_assoc, arith}
 use Rattle.std.specs.List.{AllByRecursion}
-use Rattle.std.proofs.ByRecursion.{All-map, All-weaker}
 use Rattle.std.proofs.lemmas.List.{take-take, take_all, length-map}
-use Rattle.lock.specs.declared.fault.SizeFault.{SizeFault}
 use Rattle.lock.specs.Lock.{Size}
 use Rattle.textline.specs.declared.events.Event.{Event}
 use Rattle.textline.specs.declared.events.SizeLines.{SizeLines}
 use Rattle.textline.specs.declared.faults.FormFault.TheVariants.{BadLine}
-use Rattle.textline.specs.Events.{written, numbers_of}
+use Rattle.textline.specs.Events.{written}
 use Rattle.textline.specs.Lines.{NoEnd}
-use Rattle.textline.specs.Numbers.{Small}
-use Rattle.textline.proofs.Ends.{no_end_decimal, no_end_written}
+use Rattle.textline.proofs.Ends.{no_end_decimal}
 use Rattle.schedule.specs.Schedules.{front_of, lines_of, text_of, Fits, StopsAt}
 use Rattle.schedule.specs.Sections.{SizeSection}
-use Rattle.schedule.proofs.Fronts.{peel}
-use Rattle.schedule.proofs.Once.{one_event, one_rendering}
-use Rattle.schedule.proofs.Progress.{same_sizes, early_none}
+use Rattle.schedule.proofs.Fronts.{peel, event_ends}
+use Rattle.schedule.proofs.Once.{same_events, one_rendering}
+use Rattle.schedule.proofs.Progress.{text_split, same_sizes, early_none}
 use Rattle.report.specs.Texts.{bad_line, sizes_line}
 use Rattle.runner.specs.Prints.{answered, queued, asks, Reaches, Runs, OnePrint}
 use Rattle.runner.specs.Prints.Runs.{uncounted, stopped, finished}
 use Rattle.runner.specs.Prints.Prints.{long, unsized, refused, ran}
-
-text_split : (ls : List (List ℕ)) (k : ℕ) → text_of ls ≡ text_of (take k ls) ++ text_of (drop k ls)
-text_split ls zero = refl
-text_split [] (suc k) = refl
-text_split (l ∷ ls) (suc k) =
-    ap (λ x. l ++ (10 ∷ x)) (text_split ls k) ∙ sym (append_assoc l (10 ∷ text_of (take k ls)) (text_of (drop k ls)))
 
 -- a text that begins with some lines of a schedule begins with fewer of them
 fits_fewer : (j k : ℕ) (bs : List ℕ) → j ≤ k → Fits k bs → Fits j bs
@@ -74,22 +65,6 @@ sized_past bs after s line section stop le =
     })
     le
 
--- events can be told from their lines
-same_events : (es fs : List Event) → AllByRecursion (λ e. Small (numbers_of e)) es
-    → AllByRecursion (λ e. Small (numbers_of e)) fs
-    → map written es ≡ map written fs → es ≡ fs
-same_events [] [] p q e = refl
-same_events [] (f ∷ fs) p q e =
-    let z : length (map written []) ≡ length (map written (f ∷ fs)) = ap length e in absurd (omega arith)
-same_events (a ∷ es) [] p q e =
-    let z : length (map written (a ∷ es)) ≡ length (map written []) = ap length e in absurd (omega arith)
-same_events (a ∷ es) (f ∷ fs) p q e =
-    let h : written a ≡ written f = cc in
-    let t : map written es ≡ map written fs = cc in
-    let head = one_event a f p.0 q.0 h in
-    let tail = same_events es fs p.1 q.1 t in
-    (λ i. head i ∷ tail i)
-
 module _ (bs head : List ℕ) (s : SizeLines) (section : SizeSection bs s head) where
   -- no line that is reached has a line end within it
   no_ends : (count : ℕ) (done : List Event) (rest : List ℕ) → Reaches bs s count done rest
@@ -105,8 +80,7 @@ module _ (bs head : List ℕ) (s : SizeLines) (section : SizeSection bs s head) 
               no_end_decimal s.counters section.small.1.1.0,
               (
                 no_end_decimal count (omega arith),
-                All-map NoEnd written done
-                    (All-weaker (λ e. Small (numbers_of e)) (λ e. NoEnd (written e)) no_end_written done r.small),
+                event_ends done r.small,
               ),
             ),
           ),
@@ -146,16 +120,6 @@ module _ (bs head : List ℕ) (s : SizeLines) (section : SizeSection bs s head) 
       ap (λ l. answered z l ++ queued z l)
       (one_rendering s s es fs p.sound q.sound (sym p.text ∙ q.text)).1
 
--- sizes are refused or not
-not_both : (r : Result Size SizeFault) (z : Size) (e : SizeFault) → r ≡ Ok z → r ≡ Err e → ⊥
-not_both r z e p q = let w : ◌≡◌ {A = ℕ} 0 1 = cc in omega arith
-
-one_fault : (r : Result Size SizeFault) (d e : SizeFault) → r ≡ Err d → r ≡ Err e → d ≡ e
-one_fault r d e p q = cc
-
-one_size : (r : Result Size SizeFault) (y z : Size) → r ≡ Ok y → r ≡ Ok z → y ≡ z
-one_size r y z p q = cc
-
 -- all that is printed is one
 pub one_print : OnePrint
 one_print bs _ _ (long p) (long q) = refl
@@ -173,16 +137,17 @@ one_print bs _ _ (refused s after e short section is) (long q) = absurd (omega a
 one_print bs _ _ (refused s after e short section is) (unsized line shorter le stop) =
     absurd (sized_past bs after s line section stop le)
 one_print bs _ _ (refused s after e short section is) (refused t behind f shorter part are) =
-    ap sizes_line (one_fault (asks s) e f is (ap asks (same_sizes bs after behind s t section part) ∙ are))
+    let fault : e ≡ f = cc (is, ap asks (same_sizes bs after behind s t section part) ∙ are) in
+    ap sizes_line fault
 one_print bs _ _ (refused s after e short section is) (ran t behind z x shorter part are runs) =
-    absurd (not_both (asks t) z e are (ap asks (same_sizes bs behind after t s part section) ∙ is))
+    cc (are, ap asks (same_sizes bs behind after t s part section) ∙ is)
 one_print bs _ _ (ran s after z x short section is runs) (long q) = absurd (omega arith)
 one_print bs _ _ (ran s after z x short section is runs) (unsized line shorter le stop) =
     absurd (sized_past bs after s line section stop le)
 one_print bs _ _ (ran s after z x short section is runs) (refused t behind e shorter part are) =
-    absurd (not_both (asks s) z e is (ap asks (same_sizes bs after behind s t section part) ∙ are))
+    cc (is, ap asks (same_sizes bs after behind s t section part) ∙ are)
 one_print bs _ _ (ran s after z x short section is runs) (ran t behind y w shorter part are goes) =
     let same = same_sizes bs after behind s t section part in
-    let size = one_size (asks s) z y is (ap asks same ∙ are) in
+    let size : z ≡ y = cc (is, ap asks same ∙ are) in
     one_run bs after s section z x w runs
     (subst (λ v. Runs bs s v w) (sym size) (subst (λ u. Runs bs u y w) (sym same) goes))

@@ -1,11 +1,11 @@
 -- A schedule that is run, event after event, and the ways out of it. Assumes nothing.
-use Rattle.std.proofs.Common.{◌≡◌, ℕ, ◌+◌, ◌<◌, ◌≤◌, true, List, [], ◌∷◌, ◌++◌, length, is_err, IsErrAnd, IfOk, Ok}
+use Rattle.std.proofs.Common.{◌≡◌, ℕ, ◌+◌, ◌<◌, ◌≤◌, List, [], ◌∷◌, ◌++◌, length, IsErrAnd, Ok}
 use Rattle.std.proofs.Common.{Err, Result, sym, refl, ap, ◌∙◌, subst, append_assoc, append-nil, arith}
 use Rattle.std.proofs.lemmas.List.{length_push}
 use Rattle.memory.specs.Meaning.{Meaning}
 use Rattle.stages.specs.declared.answer.Answer.{Answer}
 use Rattle.lock.specs.declared.fault.SizeFault.{SizeFault}
-use Rattle.lock.specs.Lock.{Size, sized}
+use Rattle.lock.specs.Lock.{Size}
 use Rattle.door.specs.declared.fault.DoorFault.{DoorFault}
 use Rattle.door.specs.declared.fault.Unfit.{Unfit}
 use Rattle.door.specs.Door.{DoorState, new_door, called}
@@ -15,6 +15,7 @@ use Rattle.board.specs.declared.board.Board.{Board}
 use Rattle.board.specs.Boards.{given_by}
 use Rattle.board.specs.Book.{Follows}
 use Rattle.board.specs.History.{board_state, board_size, Carries, StandsAfter}
+use Rattle.board.proofs.Sizes.{made_of, made_is}
 use Rattle.textline.specs.declared.events.Event.{Event}
 use Rattle.textline.specs.declared.events.SizeLines.{SizeLines}
 use Rattle.textline.specs.declared.faults.FormFault.{FormFault}
@@ -22,12 +23,11 @@ use Rattle.textline.specs.declared.faults.FormFault.TheVariants.{TooLong, BadLin
 use Rattle.textline.specs.Lines.{NumberLine, EventLine}
 use Rattle.schedule.specs.Schedules.{StopsAt, RendersNone}
 use Rattle.schedule.specs.Sections.{SizeSection, TakesSizes}
-use Rattle.schedule.proofs.Progress.{Progress, progress_none, progress_more, progress_all}
+use Rattle.schedule.proofs.Progress.{Progress, progress_none, progress_more}
 use Rattle.schedule.proofs.Progress.{count_stops, event_stops, event_none, end_stops, end_none}
 use Rattle.report.specs.Texts.{answer_line, bad_line, sizes_line}
 use Rattle.runner.specs.declared.faults.RunFault.{RunFault}
 use Rattle.runner.specs.declared.faults.RunFault.TheVariants.{Memory, Form, Sizes}
-use Rattle.std.specs.declared.alloc.AllocError.{AllocError}
 use Rattle.runner.specs.Calls.{call_of_event, calls_of}
 use Rattle.runner.specs.Prints.{answered, asks, Reaches, Prints}
 use Rattle.runner.specs.Prints.Runs.{uncounted, stopped, finished}
@@ -35,29 +35,16 @@ use Rattle.runner.specs.Prints.Prints.{long, unsized, ran}
 use Rattle.runner.specs.Plays.{Plays, Ends}
 use Rattle.runner.proofs.Answering.{calls_push, state_push, answered_push}
 
--- what set_up makes of a judgement of sizes
-abbrev made_of : {X : Type 0} → X → Result Size SizeFault → Result (Size × DoorState) (Unfit X)
-made_of memory (Ok z) = Ok (z, new_door)
-made_of memory (Err e) = Err (record { fault = e; memory = memory })
-
-set_up_is : {X : Type 0} (memory : X) (c n k : ℕ) → set_up memory c n k ≡ made_of memory (sized c n k)
-set_up_is memory c n k = same (sized c n k)
-  where
-    same : (j : Result Size SizeFault)
-        → elim j [ Ok z ↦ Ok (z, new_door) | Err e ↦ Err (record { fault = e; memory = memory }) ] ≡ made_of memory j
-    same (Ok z) = refl
-    same (Err e) = refl
-
 made_ok : {X : Type 0} (memory : X) (j : Result Size SizeFault) (z : Size) (s : DoorState)
     → Ok (z, s) ≡ made_of memory j → (j ≡ Ok z) × (s ≡ new_door)
 made_ok memory (Ok y) z s q =
     let e : ◌≡◌ {A = Size × DoorState} (z, s) (y, new_door) = cc in
     (ap (λ (w : Size × DoorState). Ok w.0) (sym e), ap (λ (w : Size × DoorState). w.1) e)
-made_ok memory (Err f) z s q = let w : ◌≡◌ {A = ℕ} 0 1 = cc in absurd (omega arith)
+made_ok memory (Err f) z s q = cc
 
 made_err : {X : Type 0} (memory : X) (j : Result Size SizeFault) (u : Unfit X)
     → Err u ≡ made_of memory j → j ≡ Err u.fault
-made_err memory (Ok y) u q = let w : ◌≡◌ {A = ℕ} 0 1 = cc in absurd (omega arith)
+made_err memory (Ok y) u q = cc
 made_err memory (Err f) u q =
     let e : u ≡ record { fault = f; memory = memory } = cc in
     ap (λ w. Err w.fault) (sym e)
@@ -68,12 +55,12 @@ pub sized_up : {X : Type 0} (meaning : X → Meaning) (memory : X) (s : SizeLine
     → (asks s ≡ Ok (board_size b)) × (board_state meaning b ≡ new_door)
 sized_up meaning memory s b e =
     made_ok memory (asks s) (board_size b) (board_state meaning b)
-    (e ∙ set_up_is memory s.cards s.nodes s.counters)
+    (e ∙ made_is memory (asks s))
 
 -- the sizes of none
 pub not_sized : {X : Type 0} (meaning : X → Meaning) (memory : X) (s : SizeLines) (u : Unfit X)
     → given_by meaning (Err u) ≡ set_up memory s.cards s.nodes s.counters → asks s ≡ Err u.fault
-not_sized meaning memory s u e = made_err memory (asks s) u (e ∙ set_up_is memory s.cards s.nodes s.counters)
+not_sized meaning memory s u e = made_err memory (asks s) u (e ∙ made_is memory (asks s))
 
 module _ {X : Type 0} (meaning : X → Meaning) where
   -- a fault of the form is passed on
@@ -90,12 +77,6 @@ module _ {X : Type 0} (meaning : X → Meaning) where
   fails_sizes start bs now (Ok u) f e is b = absurd e
   fails_sizes start bs now (Err g) f e is b =
       subst (λ h. Plays meaning start bs now (Err h)) (sym e) ([], is ∙ sym (append-nil start), b)
-
-  -- want of memory is passed on
-  pub fails_memory : (start bs now : List ℕ) (r : Result (Board X) RunFault) (f : AllocError)
-      → IsErrAnd r (λ y. y ≡ Memory f) → Plays meaning start bs now r
-  fails_memory start bs now (Ok u) f e = absurd e
-  fails_memory start bs now (Err g) f e = subst (λ h. Plays meaning start bs now (Err h)) (sym e) tt
 
 -- one of the size lines is at fault
 pub bad_sizes : (bs : List ℕ) (f : FormFault) → TakesSizes bs (Err f) → Prints bs (bad_line f)
@@ -205,28 +186,6 @@ module _ {bs start now : List ℕ} {z : Size} {at : DoorState} {count index : �
         (subst (λ g. Prints bs (answered z p.done ++ bad_line g)) (sym is)
         (stops (6 + count) (omega arith) (end_stops p.progress all) (end_none p.progress all some)))
 
--- the text ends with the last event
-pub plays_all : {X : Type 0} (meaning : X → Meaning) (bs start now : List ℕ) (b : Board X) (count index : ℕ)
-    (rest : List ℕ) → Playing bs start now (board_size b) (board_state meaning b) count index rest
-    → index ≡ count → rest ≡ [] → Plays meaning start bs now (Ok b)
-plays_all meaning bs start now b count index rest p last none =
-    let reached = p.reached in
-    let all : length p.done ≡ count = omega arith in (
-      answered (board_size b) p.done,
-      p.told,
-      record {
-        sizes = p.sizes;
-        events = p.done;
-        after = p.progress.head;
-        short = p.short;
-        asked = p.fits;
-        section = p.progress.section;
-        renders = progress_all p.progress all none;
-        follows = p.follows;
-        told_is = refl;
-      },
-    )
-
 -- what is told and the last line are all that is printed
 pub prints : {X : Type 0} (meaning : X → Meaning) (bs start now out last : List ℕ) (r : Result (Board X) RunFault)
     → start ≡ [] → Plays meaning start bs now r → Ends meaning r last → out ≡ now ++ last → Prints bs out
@@ -240,9 +199,3 @@ prints meaning bs start now out last (Err (Form f)) none t v is =
 prints meaning bs start now out last (Err (Sizes e)) none t v is =
     subst (Prints bs) (sym (is ∙ (λ i. (t.1 ∙ ap (λ l. l ++ t.0) none) i ++ v i))) t.2
 prints meaning bs start now out last (Err (Memory _)) none t v is = absurd v
-
--- nothing is printed for want of memory
-pub prints_none : {S E : Type 0} (bytes : S → List ℕ) (bs : List ℕ) (r : Result S E) → is_err r ≡ true
-    → IfOk r (λ s. Prints bs (bytes s))
-prints_none bytes bs (Ok s) e = let w : ◌≡◌ {A = ℕ} 0 1 = cc in absurd (omega arith)
-prints_none bytes bs (Err x) e = tt

@@ -10,12 +10,12 @@ use Rattle.runner.specs.Prints.{PromiseStands, RecountsStand}
 -- both of two tests hold
 both : (a b : Bool) → cond a b false ≡ true → (a ≡ true) × (b ≡ true)
 both true b e = (refl, e)
-both false b e = let w : ◌≡◌ {A = ℕ} 0 1 = cc in absurd (omega arith)
+both false b e = cc
 
 -- sizes that are not refused passed the test, and are as they were asked for
 taken : (b : Bool) (y z : Size) → cond b (Ok y) (Err OutOfRange) ≡ Ok z → (b ≡ true) × (y ≡ z)
 taken true y z e = (refl, cc)
-taken false y z e = let w : ◌≡◌ {A = ℕ} 0 1 = cc in absurd (omega arith)
+taken false y z e = cc
 
 -- a size that is within its range is at most its most
 at_most : (most x : ℕ) → within most x ≡ true → x ≤ most

@@ -1,10 +1,11 @@
 -- A text of which the first lines are known: what some schedule's text goes on with. Assumes nothing.
 use Rattle.std.proofs.Common.{◌≡◌, ℕ, ◌+◌, ◌<◌, ◌≤◌, List, [], ◌∷◌, ◌++◌, length, get_or, take, drop, decimal, sym}
-use Rattle.std.proofs.Common.{refl, ap, ◌∙◌, append_assoc, arith, length-take-le}
+use Rattle.std.proofs.Common.{map, refl, ap, ◌∙◌, append_assoc, arith, length-take-le}
 use Rattle.std.specs.List.{AllByRecursion}
 use Rattle.std.proofs.lemmas.Fmt.{decimal_injective}
-use Rattle.std.proofs.ByRecursion.{All-map, All-weaker, All-take, All-push}
 use Rattle.std.proofs.lemmas.List.{take-take, drop-take, drop_more}
+use Rattle.std.proofs.lemmas.List.Elements.{All-map, All-weaker, All-take, All-push, All-from_recursion}
+use Rattle.std.proofs.lemmas.List.Elements.{recursion_from_All}
 use Rattle.textline.specs.declared.events.Event.{Event}
 use Rattle.textline.specs.declared.events.SizeLines.{SizeLines}
 use Rattle.textline.specs.Events.{written, numbers_of}
@@ -13,7 +14,16 @@ use Rattle.textline.specs.Numbers.{Small}
 use Rattle.schedule.specs.Schedules.{lines_of, text_of, Sound, Fits, StopsAt}
 use Rattle.textline.proofs.Ends.{one_cut, no_end_decimal, no_end_written}
 
--- no line of a schedule has a line end within it
+-- no line of an event has a line end within it
+pub event_ends : (es : List Event) → AllByRecursion (λ e. Small (numbers_of e)) es
+    → AllByRecursion NoEnd (map written es)
+event_ends es h =
+    recursion_from_All NoEnd (map written es)
+    (All-map NoEnd written es
+    (All-weaker (λ e. Small (numbers_of e)) (λ e. NoEnd (written e)) no_end_written es
+    (All-from_recursion (λ e. Small (numbers_of e)) es h)))
+
+-- no line of a schedule has one
 pub no_ends : (s : SizeLines) (es : List Event) → Sound s es → AllByRecursion NoEnd (lines_of s es)
 no_ends s es h =
     let few = h.few in
@@ -27,8 +37,7 @@ no_ends s es h =
             no_end_decimal s.counters h.sizes.1.1.0,
             (
               no_end_decimal (length es) count,
-              All-map NoEnd written es
-                  (All-weaker (λ e. Small (numbers_of e)) (λ e. NoEnd (written e)) no_end_written es h.events),
+              event_ends es h.events,
             ),
           ),
         ),
@@ -71,7 +80,8 @@ pub begun_more : {bs : List ℕ} {done : List (List ℕ)} {rest : List ℕ} (l a
     → rest ≡ l ++ (10 ∷ after) → Begun bs (done ++ l ∷ []) after
 begun_more {bs} {done} {rest} l after b n e = record {
   whole = b.whole ∙ line_more done l rest after e;
-  lines = All-push NoEnd done l b.lines n;
+  lines = recursion_from_All NoEnd (done ++ l ∷ [])
+      (All-push NoEnd done l (All-from_recursion NoEnd done b.lines) n);
 }
 
 -- some schedule has the lines `done` and a line more, with which `rest` begins
@@ -100,7 +110,8 @@ next_of {bs} {done} {rest} s es after b sound lt e =
     let L = lines_of s es in
     let n = length done in
     let long = length-take-le (n + 1) L (omega arith) in
-    let k = peel done (take (n + 1) L) rest after b.lines (All-take NoEnd (n + 1) L (no_ends s es sound))
+    let lines = All-take NoEnd (n + 1) L (All-from_recursion NoEnd L (no_ends s es sound)) in
+    let k = peel done (take (n + 1) L) rest after b.lines (recursion_from_All NoEnd (take (n + 1) L) lines)
     (omega arith)
     (sym b.whole ∙ e) in
     (sym (take-take n (n + 1) L (omega arith)) ∙ k.0, k.1 ∙ one_line L n after lt)

@@ -64,7 +64,7 @@ one_event a b p q e =
     sym (told_is a) ∙ (λ i. told (l i) (n i)) ∙ told_is b
 
 -- events can be told from their lines
-same_events : (es fs : List Event) → AllByRecursion (λ e. Small (numbers_of e)) es
+pub same_events : (es fs : List Event) → AllByRecursion (λ e. Small (numbers_of e)) es
     → AllByRecursion (λ e. Small (numbers_of e)) fs
     → map written es ≡ map written fs → es ≡ fs
 same_events [] [] p q e = refl

@@ -5,8 +5,9 @@ use Rattle.std.proofs.Common.{length-append}
 use lib.ListN.{length-replicate}
 use Rattle.std.specs.List.{AllByRecursion}
 use Rattle.std.proofs.lemmas.Fmt.{decimal_injective}
-use Rattle.std.proofs.ByRecursion.{All-append, All-push, All-get_or}
 use Rattle.std.proofs.lemmas.List.{take_at, map-append, length-map, drop_all, get_or-map, length_push}
+use Rattle.std.proofs.lemmas.List.Elements.{All-append, All-push, All-get_or, All-replicate, All-from_recursion}
+use Rattle.std.proofs.lemmas.List.Elements.{recursion_from_All}
 use Rattle.textline.specs.declared.events.Event.{Event}
 use Rattle.textline.specs.declared.events.Event.TheVariants.{Step}
 use Rattle.textline.specs.declared.events.SizeLines.{SizeLines}
@@ -91,13 +92,15 @@ progress_more {bs} {s} {count} {done} {rest} e after p lt line = record {
   few = p.few;
   counted = p.counted;
   within = omega (arith, length_push done e);
-  events = All-push (λ x. Small (numbers_of x)) done e p.events line.small;
+  events = recursion_from_All (λ x. Small (numbers_of x)) (done ++ e ∷ [])
+      (All-push (λ x. Small (numbers_of x)) done e
+      (All-from_recursion (λ x. Small (numbers_of x)) done p.events) line.small);
   begun = subst (λ l. Begun bs (sizes_of s ++ (decimal count ∷ l)) after) (sym (map-append written done (e ∷ [])))
       (begun_more (written e) after p.begun (no_end_written e line.small) line.whole);
 }
 
 -- a text is its first k lines and the others
-text_split : (ls : List (List ℕ)) (k : ℕ) → text_of ls ≡ text_of (take k ls) ++ text_of (drop k ls)
+pub text_split : (ls : List (List ℕ)) (k : ℕ) → text_of ls ≡ text_of (take k ls) ++ text_of (drop k ls)
 text_split ls zero = refl
 text_split [] (suc k) = refl
 text_split (l ∷ ls) (suc k) =
@@ -147,11 +150,6 @@ count_stops bs head s section none =
     let few = x.sound.few in
     none (length x.events) x.after x.sound.few (record { small = omega arith; whole = x.goes }))
 
--- what holds of an event holds of its copies
-all_same : (P : Event → Type 0) (n : ℕ) (e : Event) → P e → AllByRecursion P (replicate n e)
-all_same P zero e h = tt
-all_same P (suc n) e h = (h, all_same P n e h)
-
 -- the first lines of a schedule are those up to the last of `done`
 take_front : (s : SizeLines) (count : ℕ) (done more : List Event) → length (done ++ more) ≡ count
     → take (length (front_of s count done)) (lines_of s (done ++ more)) ≡ front_of s count done
@@ -178,8 +176,10 @@ module _ {bs : List ℕ} {s : SizeLines} {count : ℕ} {done : List Event} {rest
         sound = record {
           sizes = p.section.small;
           few = omega arith;
-          events = All-append (λ e. Small (numbers_of e)) done more p.events
-              (all_same (λ e. Small (numbers_of e)) (count - length done) (Step 0) (omega arith, tt));
+          events = recursion_from_All (λ e. Small (numbers_of e)) (done ++ more)
+              (All-append (λ e. Small (numbers_of e)) done more
+              (All-from_recursion (λ e. Small (numbers_of e)) done p.events)
+              (All-replicate (λ e. Small (numbers_of e)) (count - length done) (Step 0) (omega arith, tt)));
         };
         enough = omega (arith, length-map done written, length-map (done ++ more) written);
         whole = p.begun.whole ∙ ap (λ l. text_of l ++ rest) (sym (take_front s count done more long));
@@ -201,7 +201,8 @@ module _ {bs : List ℕ} {s : SizeLines} {count : ℕ} {done : List Event} {rest
       let i = length (map written done) in
       let at : i < length x.events = omega (arith, length-map done written, next_count x) in
       none (get_or x.events i (Step 0)) x.after (record {
-        small = All-get_or (λ e. Small (numbers_of e)) x.events i (Step 0) at x.sound.events;
+        small = All-get_or (λ e. Small (numbers_of e)) x.events i (Step 0) at
+            (All-from_recursion (λ e. Small (numbers_of e)) x.events x.sound.events);
         whole = x.goes ∙ ap (λ l. l ++ (10 ∷ x.after)) (get_or-map written x.events i (Step 0) [] at);
       }))
 

@@ -1,10 +1,10 @@
 -- Where a line ends, and that a text is cut into lines in one way. Assumes nothing.
 use Rattle.std.proofs.Common.{◌≡◌, ℕ, suc, ◌<◌, List, [], ◌∷◌, ◌++◌, length, get_or, decimal}
 use Rattle.std.proofs.Common.{sym, refl, ap, ◌∙◌, add-zero, arith, length-append}
-use Rattle.std.specs.List.{AllByRecursion}
+use Rattle.std.specs.List.{All}
 use Rattle.std.proofs.lemmas.Fmt.{digits_decimal}
-use Rattle.std.proofs.ByRecursion.{All-get_or, All-append, All-from_get_or}
 use Rattle.std.proofs.lemmas.List.{get_or-append-add}
+use Rattle.std.proofs.lemmas.List.Elements.{All-nil, All-cons, All-get_or, All-append, All-from_get_or}
 use Rattle.std.proofs.lemmas.Str.Parse.{digit_at}
 use Rattle.textline.specs.declared.events.Event.{Event}
 use Rattle.textline.specs.declared.events.Event.TheVariants.{Read, Write, Leave, Add, Show, Step, Abort, Reuse}
@@ -39,7 +39,7 @@ no_cut s line after none whole =
 
 -- bytes above 10
 abbrev Inked : List ℕ → Type 0
-Inked bs = AllByRecursion (λ b. 10 < b) bs
+Inked bs = All (λ b. 10 < b) bs
 
 -- no line ends in bytes above 10
 no_end_inked : (bs : List ℕ) → Inked bs → NoEnd bs
@@ -53,9 +53,10 @@ inked_decimal n lt =
 
 -- spaces and digits are above 10
 inked_spelled : (ns : List ℕ) → Small ns → Inked (spelled ns)
-inked_spelled [] h = tt
+inked_spelled [] h = All-nil (λ b. 10 < b)
 inked_spelled (n ∷ ns) h =
-    (omega arith, All-append (λ b. 10 < b) (decimal n) (spelled ns) (inked_decimal n h.0) (inked_spelled ns h.1))
+    All-cons (λ b. 10 < b) 32 (decimal n ++ spelled ns) (omega arith)
+    (All-append (λ b. 10 < b) (decimal n) (spelled ns) (inked_decimal n h.0) (inked_spelled ns h.1))
 
 -- letters are above 10
 inked_letter : (e : Event) → 10 < letter e
@@ -74,7 +75,9 @@ no_end_decimal n h = no_end_inked (decimal n) (inked_decimal n h)
 
 -- no line ends in the line of an event
 pub no_end_written : (e : Event) → Small (numbers_of e) → NoEnd (written e)
-no_end_written e h = no_end_inked (written e) (inked_letter e, inked_spelled (numbers_of e) h)
+no_end_written e h =
+    no_end_inked (written e)
+    (All-cons (λ b. 10 < b) (letter e) (spelled (numbers_of e)) (inked_letter e) (inked_spelled (numbers_of e) h))
 
 -- the line that is cut off holds the number that the text begins with
 pub number_of_cut : (s line rest after : List ℕ) (n : ℕ) → Cut s line rest → NumberLine s n after → Numeral line n

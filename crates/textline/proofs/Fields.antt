@@ -7,7 +7,7 @@ use Rattle.std.specs.Cmp.Lexicographic.{pointwise}
 use Rattle.std.specs.Int.{IsInRange}
 use Rattle.std.specs.List.{prefix_len}
 use Rattle.std.proofs.lemmas.Fmt.{digits_decimal, decimal_injective}
-use Rattle.std.proofs.lemmas.List.{take_at, drop_at, drop_more, take_more_set, get_or_append_left}
+use Rattle.std.proofs.lemmas.List.{take_at, drop_at, drop_more, take_more_set, get_or_append_left, append_cancel_right}
 use Rattle.std.proofs.lemmas.List.{get_or-drop, get_or_past}
 use Rattle.std.proofs.lemmas.Bool.{false≢true}
 use Rattle.std.proofs.lemmas.Bool.Decides.{Decides-eqb}
@@ -15,7 +15,7 @@ use Rattle.std.proofs.lemmas.Slice.Eq.{strip_prefix_is}
 use Rattle.std.proofs.str.Laws.{order}
 use Rattle.std.proofs.lemmas.List.{get_or-append-add}
 use Rattle.std.proofs.lemmas.List.Sums.{prefix_len_is, prefix_len_stops}
-use Rattle.std.proofs.ByRecursion.{All-get_or, All-push}
+use Rattle.std.proofs.lemmas.List.Elements.{All-get_or, All-push, All-from_recursion, recursion_from_All}
 use Rattle.std.proofs.lemmas.Str.Parse.{digit_at}
 use Rattle.textline.specs.Numbers.{Numeral, Field, Stops, spelled, Small, Spells}
 use Rattle.textline.proofs.Decimals.{own}
@@ -76,12 +76,6 @@ numeral_is bs rest digits after k n e r d f =
     let same : rest ≡ decimal n ++ after = cc in
     record { small = f.small; text = d ∙ front_is rest after k n r f.small same f.stops }
 
--- what stands before one end is the same
-cancel : (xs ys a : List ℕ) → xs ++ a ≡ ys ++ a → xs ≡ ys
-cancel xs ys a e =
-    let len : length xs ≡ length ys = omega (arith, simp length-append at (ap length e)) in
-    sym (take_at xs a (length xs) refl) ∙ ap (take (length xs)) e ∙ take_at ys a (length xs) (sym len)
-
 -- a field is read in one way
 pub same_after : (bs a b : List ℕ) (n m : ℕ) → Field bs n a → Field bs m b → a ≡ b
 same_after bs a b n m f g =
@@ -104,7 +98,7 @@ same_first bs a b n m f g =
     let y = g.whole in
     let after = same_after bs a b n m f g in
     let e : decimal n ++ a ≡ decimal m ++ a = cc in
-    decimal_injective n m (omega arith) (omega arith) (cancel (decimal n) (decimal m) a e)
+    decimal_injective n m (omega arith) (omega arith) (append_cancel_right (decimal n) (decimal m) a e)
 
 -- no digit stands before the first of several numbers
 pub stops_spelled : (ns : List ℕ) → Stops (spelled ns)
@@ -129,7 +123,7 @@ pub record Got (s : List ℕ) (i : ℕ) (out rest : List ℕ) : Type 0 where
 
 -- each of several numbers is at most 65,535
 small_at : (ns : List ℕ) (i : ℕ) → Small ns → i < length ns → get_or ns i 0 < 65536
-small_at ns i h lt = All-get_or (λ n. n < 65536) ns i 0 lt h
+small_at ns i h lt = All-get_or (λ n. n < 65536) ns i 0 lt (All-from_recursion (λ n. n < 65536) ns h)
 
 -- what is left of a text of numbers begins with the next one
 pub next_field : (ns rest : List ℕ) (i : ℕ) → Small ns → i < length ns → rest ≡ spelled (drop i ns)
@@ -150,7 +144,9 @@ got_more s out rest after i n lt g f = record {
   only = λ ns all le e.
       let here : i < length ns = omega arith in
       same_after rest after _ n (get_or ns i 0) f (next_field ns rest i all here (g.only ns all (omega arith) e));
-  small = subst Small (sym (take_more_set out i n lt)) (All-push (λ k. k < 65536) (take i out) n g.small f.small);
+  small = subst Small (sym (take_more_set out i n lt))
+      (recursion_from_All (λ k. k < 65536) (take i out ++ n ∷ [])
+      (All-push (λ k. k < 65536) (take i out) n (All-from_recursion (λ k. k < 65536) (take i out) g.small) f.small));
 }
 
 -- a text of n numbers goes on with a field after i of them

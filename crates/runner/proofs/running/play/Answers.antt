@@ -1,7 +1,7 @@
 use Rattle.std.proofs.Common.{[], sym, refl, ◌∙◌, append-nil, arith}
 use Rattle.runner.specs.Prints.Prints.{refused}
-use Rattle.runner.proofs.Playing.{fails, fails_sizes, fails_memory, bad_sizes, bad_count, sized_up, not_sized}
-use Rattle.runner.proofs.Playing.{playing_none, playing_more, stops_event, stops_end, plays_all}
+use Rattle.runner.proofs.Playing.{fails, fails_sizes, bad_sizes, bad_count, sized_up, not_sized}
+use Rattle.runner.proofs.Playing.{playing_none, playing_more, stops_event, stops_end}
 use Rattle.runner.proofs.running.play.Goals as goal
 
 pub returns-in_err-sizes : goal.returns-in_err-sizes
@@ -41,14 +41,6 @@ returns-in_err-event g c =
     stops_event c.loop-index.invariant g.M.Memory.meaning _ _ (omega arith)
     c.from_residual-in_err-event.ensures.1 f.0 f.1
 
-pub returns-in_err-answer_line : goal.returns-in_err-answer_line
-returns-in_err-answer_line g c =
-    fails_memory g.M.Memory.meaning _ _ _ _ _ c.from_residual-in_err-answer_line.ensures.1
-
-pub returns-in_err-push_str : goal.returns-in_err-push_str
-returns-in_err-push_str g c =
-    fails_memory g.M.Memory.meaning _ _ _ _ _ c.from_residual-in_err-push_str.ensures.1
-
 pub loop-index-preserved : goal.loop-index-preserved
 loop-index-preserved g c =
     playing_more c.loop-index.invariant _ _ _ _ _ _ _ _ (omega arith) c.in_ok-event.ensures
@@ -61,8 +53,3 @@ returns-in_err-take_end g c =
     let f = c.in_err-take_end.ensures in
     stops_end c.loop-index.invariant g.M.Memory.meaning _ _ (omega arith)
     c.from_residual-in_err-take_end.ensures.1 f.0 f.1
-
-pub returns : goal.returns
-returns g c =
-    plays_all g.M.Memory.meaning _ _ _ c.loop-index.board _ _ _ c.loop-index.invariant (omega arith)
-    c.in_ok-take_end.ensures

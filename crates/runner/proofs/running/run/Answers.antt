@@ -1,13 +1,13 @@
-use Rattle.std.proofs.Common.{◌++◌, string_bytes, ap, ◌∙◌}
+use Rattle.std.proofs.Common.{◌++◌, string_bytes, ap, ◌∙◌, rules}
 use Rattle.runner.proofs.Once.{one_print}
-use Rattle.runner.proofs.Playing.{prints, prints_none}
+use Rattle.runner.proofs.Playing.{prints}
 use Rattle.runner.proofs.Promised.{promise_stands, recounts_stand}
 use Rattle.runner.proofs.running.run.Goals as goal
 
 pub returns-in_err-last_line : goal.returns-in_err-last_line
 returns-in_err-last_line g c =
     record {
-      prints = prints_none string_bytes c.args.text.now c.from_residual.result c.from_residual.ensures.0;
+      prints = search rules;
       one = one_print;
       promise = promise_stands;
       tells = recounts_stand;
@@ -16,9 +16,7 @@ returns-in_err-last_line g c =
 pub returns-in_err-push_str : goal.returns-in_err-push_str
 returns-in_err-push_str g c =
     record {
-      prints =
-          prints_none string_bytes c.args.text.now c.from_residual-in_err-push_str.result
-          c.from_residual-in_err-push_str.ensures.0;
+      prints = search rules;
       one = one_print;
       promise = promise_stands;
       tells = recounts_stand;

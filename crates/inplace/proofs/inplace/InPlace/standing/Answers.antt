@@ -1,8 +1,9 @@
 use Rattle.std.proofs.Common.{◌+◌, ◌<◌, ◌≤◌, length, get_or, drop, sym, ◌∙◌, arith, rules}
 use Rattle.std.proofs.lemmas.List.{at_drop_more, at_drop_all}
 use Rattle.memory.specs.Meaning.{value_in}
+use Rattle.memory.proofs.Lasting.{landed_other}
 use Rattle.inplace.specs.Undo.{undo_of, undoes}
-use Rattle.inplace.proofs.Undoes.{value_lacks, value_append, value_skip, landed_at, landed_other}
+use Rattle.inplace.proofs.Undoes.{value_lacks, value_append, value_skip, landed_at}
 use Rattle.inplace.proofs.inplace.InPlace.standing.Goals as goal
 
 pub loop-tx-preserved : goal.loop-tx-preserved
