@@ -43,9 +43,9 @@ fn chosen(rt: HostRuntime) -> anyhow::Result<Choice> {
     }
     match word.as_str().parse() {
         Ok(choice) => Ok(choice),
-        Err(UnknownMemory) => Err(anyhow!(
-            format!(in rt.alloc(); "say deferred or inplace: no memory is called {word}")?
-        )),
+        Err(UnknownMemory) => Err(anyhow!(format!(in rt.alloc();
+            "say deferred or inplace: no memory is called {word}"
+        )?)),
     }
 }
 
