@@ -1,7 +1,7 @@
 -- A call that wants a transaction, by the log of the open one.
-use Rattle.std.proofs.Common.{◌≡◌, ℕ, ◌<◌, true, false, List, [], ◌∷◌, ◌++◌, map, length, set, Some, None, Ok}
+use Rattle.std.proofs.Common.{◌≡◌, ℕ, ◌<◌, ◌≤◌, true, false, List, [], ◌∷◌, ◌++◌, map, length, set, Some, None, Ok}
 use Rattle.std.proofs.Common.{sym, ap, ◌∙◌}
-use Rattle.std.proofs.lemmas.Bool.{cond-true, cond-false, lt-ltb}
+use Rattle.std.proofs.lemmas.Bool.{cond-true, cond-false, lt-ltb, le-ltb}
 use Rattle.memory.specs.declared.write.Write.{Write}
 use Rattle.memory.specs.declared.fault.Refusal.TheVariants.{Full}
 use Rattle.memory.specs.declared.access.Access.TheVariants.{Reads, Writes}
@@ -73,6 +73,13 @@ module _ (e n : InPlace) (p : Place) (card cell : ℕ) (l : Log)
   write_new v h k =
       by_log (λ m c x t. write_at m c x v t)
       ∙ ap (write_open m p.card p.cell (marks_of l)) (cond-false _ _ _ h ∙ cond-true _ _ _ (lt-ltb _ _ k))
+
+  -- a fifth write
+  pub write_full : (v : ℕ) → wrote ws p.cell ≡ false → 4 ≤ length ws
+      → writing (meaning_of e) card cell v ≡ refused Full p.card p.cell (with_tx m p.card none)
+  write_full v h k =
+      by_log (λ m c x t. write_at m c x v t)
+      ∙ ap (write_open m p.card p.cell (marks_of l)) (cond-false _ _ _ h ∙ cond-false _ _ _ (le-ltb _ _ k))
 
   -- a commit
   pub commit_open : cell ≡ 0

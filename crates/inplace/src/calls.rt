@@ -9,6 +9,9 @@ use memory::log::{Log, Transaction};
 use memory::memory::Memory;
 use memory::place::Place;
 
+// How many cells a transaction may write.
+const MOST_WRITES: usize = 4;
+
 impl InPlace {
     // A memory newly made: every cell 0, no transaction. Each memory has cells and transactions of its own.
     pub fn new() -> InPlace
@@ -81,7 +84,8 @@ impl Memory for InPlace {
         Ok(standing)
     }
 
-    // The first write of a cell keeps its old value.
+    // The first write of a cell keeps its old value: that is in the cell only once those who had written it are doomed,
+    // so it is recorded then. There is room for it, since a fifth write is refused before anybody is doomed.
     #[tactic(auto, using(crate::proofs::Firsts::firsts))]
     fn write(&mut self, card: usize, cell: usize, value: u16) -> Result<(), MemoryFault> {
         let place = Place::new(card, cell)?;
@@ -91,12 +95,15 @@ impl Memory for InPlace {
             self.cells[place.cell] = value;
             return Ok(());
         }
-        let mut longer = log;
-        if let Err(refusal) = longer.record(place, self.standing(place)) {
+        if log.writes().len() >= MOST_WRITES {
             self.restore(place, Transaction::Closed);
-            return Err(place.refuse(refusal));
+            return Err(place.refuse(Refusal::Full));
         }
         self.serve(Access::Writes, place, Transaction::Open(log));
+        let mut longer = log;
+        longer
+            .record(place, self.cells[place.cell])
+            .map_err(|refusal| place.refuse(refusal))?;
         self.cells[place.cell] = value;
         self.txs[place.card] = Transaction::Open(longer);
         Ok(())

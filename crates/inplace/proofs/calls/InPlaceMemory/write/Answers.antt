@@ -1,17 +1,17 @@
-use Rattle.std.proofs.Common.{◌≡◌, ◌<◌, List, map, length, Ok, sym, ap, ◌∙◌, rules}
+use Rattle.std.proofs.Common.{◌<◌, List, map, length, sym, ap, ◌∙◌, rules}
+use Rattle.std.proofs.lemmas.List.{length-map}
 use Rattle.memory.specs.declared.write.Write.{Write}
 use Rattle.memory.specs.declared.access.Access.TheVariants.{Writes}
 use Rattle.memory.specs.declared.log.Transaction.TheVariants.{Open}
-use Rattle.memory.specs.Logs.{marks_of, writes_of}
+use Rattle.memory.specs.Logs.{marks_of}
 use Rattle.memory.specs.Meaning.{Meaning, replaced, live, with_tx}
-use Rattle.memory.proofs.Rooms.{fitted_ok}
 use Rattle.inplace.specs.Undo.{undo_log, written}
 use Rattle.inplace.specs.Standing.{meaning_of}
 use Rattle.inplace.proofs.Assigns.{again_cells, again_txs, free_after, served_again}
-use Rattle.inplace.proofs.Firsts.{first_apart}
+use Rattle.inplace.proofs.Firsts.{first_apart, first_after}
 use Rattle.inplace.proofs.Conflicts.{wrote_written}
 use Rattle.inplace.proofs.Means.{both}
-use Rattle.inplace.proofs.Opens.{write_again}
+use Rattle.inplace.proofs.Opens.{write_again, write_new}
 use Rattle.inplace.proofs.Own.{own_at}
 use Rattle.inplace.proofs.calls.InPlaceMemory.write.Goals as goal
 
@@ -42,10 +42,26 @@ returns-then-wrote-clause-after c =
 pub invariant_of-self-2-clause-apart : goal.invariant_of-self-2-clause-apart
 invariant_of-self-2-clause-apart c =
     let l = c.in_ok-log.log in
-    let g = c.record.new.self in
-    let fits : c.in_ok-place.place.cell < length c.serve-2.new.self.cells = search rules in
-    let q : c.record.result ≡ Ok tt = search rules in
-    let k = fitted_ok (writes_of l) (writes_of g) _ c.record.result tt c.record.ensures.writes q in
-    first_apart c.open.new.self c.serve-2.new.self c.in_ok-place.place l g c.standing.result fits
+    let e = c.serve-2.new.self in
+    let fits : c.in_ok-place.place.cell < length e.cells = search rules in
+    let roomy : length (undo_log l) < 4 = search rules in
+    first_apart c.open.new.self e c.in_ok-place.place l c.record.new.self c.record.result fits
     c.serve-2.ensures.after c.serve-2.ensures.own c.serve-2.ensures.written
-    (sym c.wrote.ensures ∙ c.if-wrote.false) c.standing.ensures c.record.ensures.marks k
+    (sym c.wrote.ensures ∙ c.if-wrote.false) roomy c.record.ensures.marks c.record.ensures.writes
+
+-- the first value for a cell
+pub returns-clause-after : goal.returns-clause-after
+returns-clause-after c =
+    let a = c.args in
+    let n = c.open.new.self in
+    let e = c.serve-2.new.self in
+    let p = c.in_ok-place.place in
+    let l = c.in_ok-log.log in
+    let fits : p.cell < length e.cells = search rules in
+    let roomy : length (undo_log l) < 4 = search rules in
+    let fresh = sym c.wrote.ensures ∙ c.if-wrote.false in
+    first_after n e p l c.record.new.self c.record.result fits c.serve-2.ensures.after c.serve-2.ensures.own
+    c.serve-2.ensures.written fresh roomy c.record.ensures.marks c.record.ensures.writes a.value
+    ∙ sym (ap (λ o. o.after)
+    (write_new a.self.now n p a.card a.cell l c.in_ok-place.ensures c.in_ok-log.ensures a.value
+    (wrote_written n.cells (undo_log l) p.cell ∙ fresh) (rw (length-map (undo_log l) (written n.cells)) roomy)))
