@@ -1,4 +1,4 @@
-// Whole lines, each with its line end. `format!` makes them; a function says which line it is.
+// Whole lines, each with its line end. A function says which line it is.
 ghost use Rattle.std.specs.Prelude.{◌≡◌, IfOk, string_bytes};
 ghost use Rattle.report.specs.Texts.{answer_line, sizes_line, queue_line};
 
@@ -20,12 +20,13 @@ pub fn answer_line(
     format!(in heap; "{k} {outcome}\n")
 }
 
-// The only line of a run whose sizes are refused.
+// The only line of a run whose sizes are refused: a text, for which room is asked for once.
 pub fn refused_sizes(heap: Global, fault: SizeFault) -> Result<String, AllocError>
     ensures { IfOk result (λ s. string_bytes s ≡ sizes_line fault) }
 {
-    let number = fault.number();
-    format!(in heap; "refused {number}\n")
+    match fault {
+        SizeFault::OutOfRange => String::from_str(heap, "refused 1\n"),
+    }
 }
 
 // The line that ends a whole run: the nodes in line.

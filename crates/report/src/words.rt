@@ -7,7 +7,8 @@ use lock::fault::LockFault;
 use stages::answer::Answer;
 use std::fmt;
 
-// What a call gave. `Result` is std's and `Answer` the stages', so their words belong to a type of this crate.
+// What a call gave. `Result` is std's and `Answer` the stages', so their words belong to a type of this crate. Refusals
+// 2 to 7 are one text each, with the number in it: written apart, the number takes longer and asks for room once more.
 #[derive(Drop)]
 pub struct Outcome(pub Result<Answer, DoorFault>);
 
@@ -24,19 +25,19 @@ impl fmt::Display for Outcome {
             Ok(Answer::Out) => write!(f, "out"),
             Ok(Answer::Added { count }) => write!(f, "added {count}"),
             Ok(Answer::Count { count }) => write!(f, "count {count}"),
-            Err(
-                DoorFault::Lock {
-                    fault: LockFault::Memory { fault },
-                },
-            ) => {
-                let number = fault.refusal.number();
-                let cell = fault.cell;
-                write!(f, "refused 8 {number} {cell}")
-            }
-            Err(fault) => {
-                let number = fault.number();
-                write!(f, "refused {number}")
-            }
+            Err(DoorFault::Malformed) => write!(f, "refused 3"),
+            Err(DoorFault::Differs) => write!(f, "refused 4"),
+            Err(DoorFault::Lock { fault }) => match fault {
+                LockFault::NoCard => write!(f, "refused 2"),
+                LockFault::NotAllowed => write!(f, "refused 5"),
+                LockFault::NoPlace => write!(f, "refused 6"),
+                LockFault::NotFree => write!(f, "refused 7"),
+                LockFault::Memory { fault } => {
+                    let number = fault.refusal.number();
+                    let cell = fault.cell;
+                    write!(f, "refused 8 {number} {cell}")
+                }
+            },
         }
     }
 }
