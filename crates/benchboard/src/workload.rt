@@ -36,8 +36,11 @@ fn decode(code: [u16; 7]) -> Call {
     }
 }
 
-// All calls of a coded list. They are decoded once, ahead of the runs that are measured.
+// All calls of a coded list. They are decoded once, ahead of the runs that are measured. Room for all is asked for at
+// once, so that want of it shows before the first is decoded; `collect` would go on with less.
 pub(crate) fn calls_of(heap: Global, codes: &[u16]) -> Result<Vec<Call>, AllocError> {
     let (whole, _) = codes.as_chunks::<7>();
-    whole.iter().copied().map(decode).collect(heap)
+    let mut calls = Vec::with_capacity(heap, whole.len())?;
+    calls.extend(whole.iter().copied().map(decode))?;
+    Ok(calls)
 }
