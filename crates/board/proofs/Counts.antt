@@ -336,6 +336,12 @@ counted_cells z f g S l e J = record {
   loaded = λ c n k a v q. J.loaded c n k a v q ∙ sym (e k);
 }
 
+-- a store to the tail or to a cell of a node
+pub counted_store : (z : Size) (f : ℕ → ℕ) (S : ℕ → Stage) (l : List Sum) (a v : ℕ) → a < 1 + 4 * z.nodes
+    → Counted z f S l → Counted z (at f a v) S l
+counted_store z f S l a v h J =
+    counted_cells z f (at f a v) S l (λ j. at_other f a v (counter_cell z.nodes j) (λ q. omega arith)) J
+
 -- a stage that is not about to store an add
 pub counted_stage : (z : Size) (f : ℕ → ℕ) (S : ℕ → Stage) (l : List Sum) (c : ℕ) (s : Stage) → finishing s ≡ false
     → Counted z f S l → Counted z f (at S c s) l

@@ -27,7 +27,8 @@ use Rattle.board.proofs.Chain.{Spot, End, who, Line, chain_end, chain_behind, ch
 use Rattle.board.proofs.Held.{reads, writes, Valid, Agrees}
 use Rattle.board.proofs.Model.{Out, seen, seen_on, commit_seen, lands}
 use Rattle.board.proofs.Moves.{aimed, hand_due, due_card}
-use Rattle.board.proofs.Links.{views}
+use Rattle.board.proofs.Sound.{Sound}
+use Rattle.board.proofs.Links.{views, sound_link}
 use Rattle.board.proofs.Steps.{Soft, soft_cell}
 
 -- some card has the node m
@@ -261,3 +262,19 @@ pub step_unheld : (c N : ℕ) (f : ℕ → ℕ) (t : ℕ → Tx) (S : ℕ → St
 step_unheld c N f t S l k q L h n lt u x = let b = field_cell n x in
     ⊎_elim (λ e. e) (λ m. absurd (unheld_cell N n (node_cell n x) S (S c) lt u b.0 b.1 m))
     (step_cells c N f t S l k q L h (node_cell n x))
+
+-- a step changes no counter but the one that its card adds to
+pub step_counter : (c N K : ℕ) (f : ℕ → ℕ) (t : ℕ → Tx) (S : ℕ → Stage) (l : List ℕ) (k : MemoryCall)
+    → call_of N c (S c) ≡ Some k → Line f (views S) l → ((d : ℕ) → Sound N K (S d)) → Agrees f (S c) (t c)
+    → (j : ℕ) → ((seen c k f t).cell (counter_cell N j) ≡ f (counter_cell N j))
+    ⊎ ((n : ℕ) × (y : ℕ) × (v : ℕ) × (S c ≡ Adds n (A2 j y v)))
+step_counter c N K f t S l k q L sound h j = ⊎_elim inl (λ m. inr (go m))
+    (step_cells c N f t S l k q L h (counter_cell N j))
+  where
+    go : Mine (views S) (counter_cell N j) ⊎ AddsTo N (S c) (counter_cell N j)
+        → (n : ℕ) × (y : ℕ) × (v : ℕ) × (S c ≡ Adds n (A2 j y v))
+    go (inl (inl z)) = absurd (omega arith)
+    go (inl (inr w)) = let b = sound_link N K (S w.1.0) (sound w.1.0) in let e = w.1.1 in let u = w.3 in
+        absurd (omega arith)
+    go (inr w) = let e : w.1 ≡ j = let z = w.5 in omega arith in
+        (w.0, w.2, w.3, subst (λ (j : ℕ). S c ≡ Adds w.0 (A2 j w.2 w.3)) e w.4)

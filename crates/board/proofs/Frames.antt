@@ -1,22 +1,27 @@
 -- What requests, aborts and stores into free nodes leave of the line.
-use Rattle.std.proofs.Common.{◌≡◌, ℕ, zero, suc, ◌+◌, ◌*◌, ◌≤◌, Bool, true, false, cond, ◌⊎◌, List, [], ◌∷◌}
+use Rattle.std.proofs.Common.{◌≡◌, ℕ, zero, suc, ◌+◌, ◌*◌, ◌<◌, ◌≤◌, Bool, true, false, cond, ◌⊎◌, List, [], ◌∷◌}
 use Rattle.std.proofs.Common.{get_or, sym, refl, ap, ◌∙◌, subst, inl, inr, arith}
 use mathlib.Core.Path.{fun_ext}
 use Rattle.std.proofs.lemmas.Bool.Decides.{nat_tests}
 use Rattle.stages.specs.declared.stage.Mode.{Mode}
 use Rattle.stages.specs.declared.stage.Mode.TheVariants.{Read, Write}
+use Rattle.stages.specs.declared.stage.Addition.TheVariants.{A1}
+use Rattle.stages.specs.declared.stage.WriterExit.TheVariants.{X1}
+use Rattle.stages.specs.declared.stage.ReaderExit.TheVariants.{Y1}
 use Rattle.stages.specs.declared.stage.Stage.{Stage}
-use Rattle.stages.specs.declared.stage.Stage.TheVariants.{Idle}
+use Rattle.stages.specs.declared.stage.Stage.TheVariants.{Idle, Inside, Adds, WriterLeaves, ReaderLeaves}
+use Rattle.stages.specs.declared.layout.Field.{Field}
+use Rattle.stages.specs.Layout.{node_cell, counter_cell}
 use Rattle.stages.specs.Rows.{begin_of}
 use Rattle.lock.specs.declared.values.NodeValues.{NodeValues}
 use Rattle.lock.specs.Lock.{LockState, stage_of, idle_card, free, has_node, entry_stores, reuse_stores, first_stage}
 use Rattle.stages.specs.declared.stage.Card.{Card}
-use Rattle.board.proofs.Cells.{at, at_other, at_all, clash, next, prev, state, spin}
+use Rattle.board.proofs.Cells.{at, at_same, at_other, at_all, clash, next, prev, state, spin}
 use Rattle.board.proofs.Views.{View, view, node, link, joined, hand, Cells}
 use Rattle.board.proofs.Chain.{Line, Like, like_line, Nodes}
 use Rattle.board.proofs.Links.{views, view_at, view_begin, has_link}
 use Rattle.board.proofs.Steps.{SameNode, frame_line, like_refl}
-use Rattle.board.proofs.Effects.{Unheld}
+use Rattle.board.proofs.Effects.{Unheld, field_cell}
 
 -- a card's stage changes, and the line does not see it
 pub line_same : (f : ℕ → ℕ) (S : ℕ → Stage) (l : List ℕ) (c : ℕ) (s : Stage) → view s ≡ view (S c)
@@ -28,6 +33,18 @@ line_same f S l c s e L = subst (λ (W : ℕ → View). Line f W l)
 pub line_begin : (f : ℕ → ℕ) (S : ℕ → Stage) (l : List ℕ) (c : ℕ)
     → Line f (views S) l → Line f (views (at S c (begin_of (S c)))) l
 line_begin f S l c L = line_same f S l c (begin_of (S c)) (view_begin (S c)) L
+
+-- a request to leave, and one to add
+pub view_leave_write : (n : ℕ) → view (WriterLeaves n X1) ≡ view (Inside n Write)
+view_leave_write n = refl
+
+-- a request of a reader to leave
+pub view_leave_read : (n : ℕ) → view (ReaderLeaves n Y1) ≡ view (Inside n Read)
+view_leave_read n = refl
+
+-- a request to add
+pub view_add : (n k a : ℕ) → view (Adds n (A1 k a)) ≡ view (Inside n Write)
+view_add n k a = refl
 
 -- a cell of the node n
 abbrev pub Within : ℕ → ℕ → Type 0
@@ -131,6 +148,26 @@ enter_line f S l c n m idle free L = come_line (stored (entry_stores n m) f) S l
 pub reuse_line : (f : ℕ → ℕ) (S : ℕ → Stage) (l : List ℕ) (n : ℕ) (v : NodeValues) → Unheld (views S) n
     → Line f (views S) l → Line (stored (reuse_stores n v) f) (views S) l
 reuse_line f S l n v free L = stored_line f (views S) l n (reuse_stores n v) (reuse_within n v) free L
+
+-- an enter changes no cell of a node that no card has after it
+pub enter_unheld : (f : ℕ → ℕ) (S : ℕ → Stage) (c n : ℕ) (m : Mode) (k : ℕ)
+    → Unheld (views (at S c (first_stage n m))) k
+    → (x : Field) → stored (entry_stores n m) f (node_cell k x) ≡ f (node_cell k x)
+enter_unheld f S c n m k u x =
+    stored_other f n (node_cell k x) (entry_stores n m) (entry_within n m) outside
+  where
+    mine : n ≡ k → link (view (at S c (first_stage n m) c)) ≡ suc k
+    mine e = ap (λ (s : Stage). link (view s)) (at_same S c (first_stage n m)) ∙ (comes n m).0 ∙ ap suc e
+
+    outside : Within n (node_cell k x) → ⊥
+    outside w = let b = field_cell k x in let p = w.0 in let q = w.1 in let r = b.0 in let s = b.1 in
+        let e : n ≡ k = omega arith in u c (mine e)
+
+-- stores into one of N nodes change no counter
+pub stored_counter : (f : ℕ → ℕ) (N n j : ℕ) (ws : List (ℕ × ℕ)) → n < N → AllWithin n ws
+    → stored ws f (counter_cell N j) ≡ f (counter_cell N j)
+stored_counter f N n j ws lt h =
+    stored_other f n (counter_cell N j) ws h (λ w. let q = w.1 in omega arith)
 
 -- nobody is in line on a new board
 pub new_line : (f : ℕ → ℕ) (S : ℕ → Stage) → f 0 ≡ 0 → ((d : ℕ) → S d ≡ Idle) → Line f (views S) []

@@ -118,6 +118,10 @@ row_of N K c (Adds n (A2 k x u)) h = (refl, refl, λ v. refl)
 pub row : (N K c : ℕ) (s : Stage) → Sound N K s → (k : MemoryCall) → call_of N c s ≡ Some k → Row c s k
 row N K c s h k e = subst (RowOf c s) e (row_of N K c s h)
 
+-- a stage without a call is outside of a transaction
+pub silent : (N K c : ℕ) (s : Stage) → Sound N K s → call_of N c s ≡ None → in_tx s ≡ false
+silent N K c s h e = subst (RowOf c s) e (row_of N K c s h)
+
 -- a row's call goes by a transaction just where its stage is inside of one
 pub row_inside : (c : ℕ) (s : Stage) (k : MemoryCall) → Row c s k → in_transaction k ≡ in_tx s
 row_inside c s call.Clear r = absurd r
